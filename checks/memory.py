@@ -2,13 +2,14 @@
 """memory.py PROGRAM: refuses the built program memory, reads and writes, one after the other.
 
 For each case it runs the program once as it is, and counts its allocations. Then it runs it again for each of them: that
-one is refused, and that one and all later ones. The program has to end with status 6 and its line, having written a prefix
-of what it wrote before, or to do all that it did before. In the same way each read and each write fails, or moves one byte
-alone. Then calls of a server fail while two clients talk to it: one link may break, or the server ends with its status. At
-last the address space is cut to 5, 6, .. 60 MB.
+one is refused, and that one and all later ones. The program has to end with status 6 and its line, having written a
+prefix of what it wrote before, or to do all that it did before. In the same way each read and each write fails, or moves
+one byte alone; of `send` and `query`, which talk to a server, each call of epoll fails too. Then calls of a server fail
+while two clients talk to it, for each of `serve`, `record` and `resume`: one link may break, or the server ends with its
+status, and its journal has all events that were answered. At last the address space is cut to 5, 6, .. 60 MB.
 
-It prints a line for each case, and ends with status 1 if one failed. It takes some minutes and needs a C compiler: what is
-refused is refused by `refuse.c`, which it compiles. With `--only WORD` it runs the cases whose names have the word.
+It prints a line for each case, and ends with status 1 if one failed. It takes some minutes and needs a C compiler: what
+is refused is refused by `refuse.c`, which it compiles. With `--only WORD` it runs the cases whose names have the word.
 """
 
 import concurrent.futures
@@ -16,7 +17,6 @@ import contextlib
 import os
 import pathlib
 import resource
-import shutil
 import signal
 import socket
 import struct
@@ -25,9 +25,11 @@ import sys
 import tempfile
 import time
 
-HERE = pathlib.Path(__file__).resolve().parent
+from journal import LISTEN, OPENED, READ, Misfit, head, is_free, read_journal, record_of
+from server import compiled
+
 OUT_OF_MEMORY = b"riemann: out of memory\n"
-MEMORY, READ_FAULT, SINK_FAULT = 6, 3, 4
+READ_FAULT, SINK_FAULT, LINK_FAULT, MEMORY, NOT_PASSED, UNANSWERED, DISK_FAULT = 3, 4, 5, 6, 12, 13, 16
 PATIENCE = 30.0
 PORT = 15560
 
@@ -136,6 +138,27 @@ def many_links():
     return ["replay", "c", "s"], {"c": "(streams index)", "s": "\n".join(script) + "\n"}
 
 
+def tests():
+    """Three tests, of which the last one does not pass."""
+    changes = '(event {:host "a" :state "ok"}) (tick 10) (event {:host "a" :state "warning" :tags ["prod"]})'
+    item = '{:host "a" :state "warning" :tags ["prod"] :time 10}'
+    text = f'(test "1" {changes} (expect "n" {item}))\n(test "2" (tick 70) (expect "n"))\n(test "3" {changes} (expect "n"))'
+    return ["test", "c", "t"], {
+        "c": '(streams (default :ttl 60 index) (by [:host] (changed :state {:init "ok"} (notice "n"))))',
+        "t": text,
+    }
+
+
+def requests():
+    """A message of 20 events, one event, and a query for all of them."""
+    body = b"".join(event(b"h%d" % n, b"s") for n in range(20))
+    return ["send", f"127.0.0.1:{PORT}", "f"], {"f": frame(body) + frame(event(b"h1", b"s")) + query(b'service = "s"')}
+
+
+def question():
+    return ["query", f"127.0.0.1:{PORT}", 'host =~ "h1%"'], {}
+
+
 CASES = {
     "a rollup": rollup,
     "a coalesce in forks": coalesce,
@@ -144,7 +167,11 @@ CASES = {
     "a query that finds 100 events": query_of_many,
     "a configuration of 75 streams": long_configuration,
     "257 links": many_links,
+    "three tests": tests,
 }
+
+# Those of clients, which follow one another over one server.
+CLIENT_CASES = {"`send` of 21 events and a query": requests, "`query`": question}
 
 
 LARGE = {
@@ -167,7 +194,7 @@ class Runner:
             data = text if isinstance(text, bytes) else text.encode()
             (folder / name).write_bytes(data)
         self.whole = self.run()
-        if self.whole[0] != 0:
+        if self.whole[0] not in (0, NOT_PASSED):
             raise Failed(f"the run with nothing refused ended with {self.whole}")
 
     def run(self, **refused):
@@ -213,12 +240,17 @@ def stopped_well(ran, whole):
     )
 
 
-def failed_well(ran, whole):
+def failed_well(ran, whole, statuses=(READ_FAULT, SINK_FAULT, MEMORY)):
     """The same of a run of which a read or a write failed: its status says so, and it wrote a prefix and at most its line."""
     status, out, err = ran
     if status == whole[0]:
         return ran == whole
-    return status in (READ_FAULT, SINK_FAULT, MEMORY) and is_prefix(out, whole[1])
+    return status in statuses and is_prefix(out, whole[1])
+
+
+def client_failed_well(ran, whole):
+    """The same of a client, whose link may fail too."""
+    return failed_well(ran, whole, (READ_FAULT, SINK_FAULT, LINK_FAULT, MEMORY, UNANSWERED))
 
 
 def in_turn(runner, pool, kind, is_well, **more):
@@ -235,16 +267,40 @@ def in_turn(runner, pool, kind, is_well, **more):
 
 def refuse_all(runner, pool):
     """Gives a line of what was refused of a case."""
+    line = refuse_memory(runner, pool)
+    reads, _ = in_turn(runner, pool, "reads", failed_well)
+    in_turn(runner, pool, "reads", equals, REFUSE_SHORT=1)
+    writes, _ = in_turn(runner, pool, "writes", failed_well)
+    in_turn(runner, pool, "writes", equals, REFUSE_SHORT=1)
+    return f"{line}; {reads} reads and {writes} writes failed or were short"
+
+
+def refuse_memory(runner, pool):
     once, ended = in_turn(runner, pool, "memory", stopped_well)
     _, ended_more = in_turn(runner, pool, "memory", stopped_well, REFUSE_MORE=1)
-    reads, _ = in_turn(runner, pool, "reads", failed_well)
-    in_turn(runner, pool, "reads", lambda ran, whole: ran == whole, REFUSE_SHORT=1)
-    writes, _ = in_turn(runner, pool, "writes", failed_well)
-    in_turn(runner, pool, "writes", lambda ran, whole: ran == whole, REFUSE_SHORT=1)
-    return (
-        f"{once} allocations: status 6 in {ended} runs with one refused, in {ended_more} with it and all later ones;"
-        f" {reads} reads and {writes} writes failed or were short"
-    )
+    return f"{once} allocations: status 6 in {ended} runs with one refused, in {ended_more} with it and all later ones"
+
+
+def equals(ran, whole):
+    return ran == whole
+
+
+def refuse_client(program, library, folder, case, pool):
+    """The same of a client, over a server of which nothing is refused. No read is short: a system's is not."""
+    (folder / "c").write_text(SERVED)
+    server = subprocess.Popen([program, "serve", "c"], cwd=folder, stdin=subprocess.DEVNULL, stdout=subprocess.DEVNULL)
+    try:
+        wait_for(server)
+        Runner(program, library, folder, requests)
+        runner = Runner(program, library, folder, case)
+        line = refuse_memory(runner, pool)
+        kinds = ("reads", "writes", "polls", "controls")
+        reads, writes, polls, controls = (in_turn(runner, pool, kind, client_failed_well)[0] for kind in kinds)
+        in_turn(runner, pool, "writes", equals, REFUSE_SHORT=1)
+        return f"{line}; {reads} reads, {writes} writes, {polls} waits and {controls} other calls of epoll failed"
+    finally:
+        server.kill()
+        server.wait()
 
 
 # ---- a small address space
@@ -328,8 +384,23 @@ def load(server):
 # ---- calls of a server that fail
 
 OK = frame(b"\x10\x01")
-LINK_FAULT = 5
-ENDINGS = {READ_FAULT: b"riemann: cannot read c\n", SINK_FAULT: b"", LINK_FAULT: b"riemann: links failed\n"}
+ENDINGS = {
+    READ_FAULT: b"riemann: cannot read c\n",
+    SINK_FAULT: b"",
+    LINK_FAULT: b"riemann: links failed\n",
+    MEMORY: OUT_OF_MEMORY,
+    DISK_FAULT: b"riemann: disk failed\n",
+}
+SERVED = f'(tcp-server {{:host "127.0.0.1" :port {PORT}}}) (streams index (changed :state (notice "n")))'
+POSTED = frame(event(b"host", b"service"))
+
+# For each command of a server, how many of the first calls of a kind fail, one in each run.
+KINDS = {"reads": 20, "writes": 12, "accepts": 8, "polls": 30, "controls": 6, "memory": 150}
+SERVERS = {
+    "serve": KINDS,
+    "record": {**KINDS, "writes": 50, "syncs": 40},
+    "resume": {**KINDS, "writes": 50, "syncs": 40},
+}
 
 
 class Client:
@@ -360,15 +431,20 @@ class Client:
             self.link.close()
 
 
-def talk_of_two(server):
-    """Two clients send three messages each, in turn. Gives them."""
+def wait_for(server):
+    """Returns once the server listens, or has ended."""
     for _ in range(500):
         with contextlib.suppress(OSError), socket.create_connection(("127.0.0.1", PORT), timeout=PATIENCE):
-            break
+            return
         if server.poll() is not None:
-            break
+            return
         time.sleep(0.005)
-    clients = [Client(frame(event(b"host", b"service"))), Client(query(b'host = "x"'))]
+
+
+def talk_of_two(server):
+    """Two clients send three messages each, in turn. Gives them."""
+    wait_for(server)
+    clients = [Client(POSTED), Client(query(b'host = "x"'))]
     for client in clients * 3:
         client.talk()
     for client in clients:
@@ -376,17 +452,46 @@ def talk_of_two(server):
     return clients
 
 
-def served(program, library, folder, kind, at):
+def begin(folder, command):
+    """Writes the files of a command of a server, and gives its arguments, and the turns that its journal has before."""
+    (folder / "c").write_text(SERVED)
+    (folder / "j").unlink(missing_ok=True)
+    if command == "serve":
+        return ["serve", "c"], []
+    if command == "record":
+        return ["record", "c", "j"], []
+    read = record_of(101, READ, 0, frame(event(b"other", b"service")))
+    turns = [record_of(100, LISTEN), record_of(100, OPENED, 0), read]
+    text = head(SERVED.encode()) + b"".join(b"\x01" + turn for turn in turns) + b"\x00"
+    (folder / "j").write_bytes(text)
+    return ["resume", "j"], read_journal(text)[1]
+
+
+def is_kept(folder, before, posted):
+    """Whether the journal, if there has to be one, has the turns of before, and as many events as were answered."""
+    path = folder / "j"
+    text = path.read_bytes() if path.exists() else b""
+    if is_free(text):
+        return not before and posted == 0
+    try:
+        _, turns, _ = read_journal(text)
+    except Misfit:
+        return False
+    return turns[: len(before)] == before and sum(turn.bytes == POSTED for turn in turns) >= posted
+
+
+def served(program, library, folder, command, kind, at):
     """Serves two clients while a call fails. Gives whether the server went on, and how many links broke."""
+    words, before = begin(folder, command)
     server = subprocess.Popen(
-        [program, "serve", "c"], cwd=folder, stdin=subprocess.DEVNULL, stdout=subprocess.PIPE, stderr=subprocess.PIPE,
+        [program, *words], cwd=folder, stdin=subprocess.DEVNULL, stdout=subprocess.PIPE, stderr=subprocess.PIPE,
         env={"LD_PRELOAD": library, "REFUSE_KIND": kind, "REFUSE_AT": str(at)},
     )
     try:
         clients = talk_of_two(server)
-        if all(it.is_broken for it in clients):
+        if any(it.is_broken for it in clients):
             with contextlib.suppress(subprocess.TimeoutExpired):
-                server.wait(timeout=1)
+                server.wait(timeout=0.5)
         if server.poll() is None:
             server.send_signal(signal.SIGTERM)
         _, err = server.communicate(timeout=PATIENCE)
@@ -395,47 +500,47 @@ def served(program, library, folder, kind, at):
     went_on, broken = server.returncode == -signal.SIGTERM, sum(it.is_broken for it in clients)
     is_well = all(is_prefix(it.got, 3 * OK) for it in clients)
     if went_on:
-        is_well = is_well and broken <= 1
+        is_well = is_well and broken <= 1 and err == b""
     else:
         is_well = is_well and err == ENDINGS.get(server.returncode)
+    if command != "serve":
+        is_well = is_well and is_kept(folder, before, len(clients[0].got) // len(OK))
     if not is_well:
         raise Failed(f"call {at} of {kind}: status {server.returncode}, {broken} links broken, {err[-200:]!r}")
     return went_on, broken
 
 
-def failing_server(program, library, folder):
+def failing_server(program, library, folder, command):
     """Fails each of the first calls of a server, of each kind, and gives how the runs ended."""
-    (folder / "c").write_text(f'(tcp-server {{:host "127.0.0.1" :port {PORT}}}) (streams index (changed :state (notice "n")))')
-    ended = {True: 0, False: 0}
-    links = 0
-    for kind, most in (("reads", 20), ("writes", 12), ("accepts", 8), ("polls", 30)):
-        for at in range(most):
-            went_on, broken = served(program, library, folder, kind, at)
-            ended[went_on] += 1
-            links += broken if went_on else 0
-    return f"each of 70 calls failed: the server went on {ended[True]} times, in which {links} links broke, and ended with its status {ended[False]} times"
+    parts = []
+    for kind, most in SERVERS[command].items():
+        runs = [served(program, library, folder, command, kind, at) for at in range(most)]
+        on = [broken for went_on, broken in runs if went_on]
+        parts.append(f"{kind} {most}, went on {len(on)} with {sum(on)} links broken, ended {most - len(on)}")
+    return "; ".join(parts)
 
 
 # ---- all
 
 
 def main(program, only):
-    compiler = shutil.which("cc") or shutil.which("gcc")
-    if compiler is None:
-        print("skipped: there is no C compiler")
-        return 0
     program = os.path.abspath(program)
     failed = 0
     with tempfile.TemporaryDirectory() as top, concurrent.futures.ThreadPoolExecutor(os.cpu_count()) as pool:
-        library = os.path.join(top, "refuse.so")
-        subprocess.run([compiler, "-O1", "-shared", "-fPIC", "-o", library, HERE / "refuse.c", "-ldl"], check=True)
+        library = compiled("refuse", top)
+        if library is None:
+            print("skipped: there is no C compiler")
+            return 0
         checks = {
             name: lambda folder, case=case: refuse_all(Runner(program, library, folder, case), pool)
             for name, case in CASES.items()
         }
+        for name, case in CLIENT_CASES.items():
+            checks[name] = lambda folder, case=case: refuse_client(program, library, folder, case, pool)
         for name, case in LARGE.items():
             checks[f"{name}, in little space"] = lambda folder, case=case: in_little_space(program, folder, case)
-        checks["a server"] = lambda folder: failing_server(program, library, folder)
+        for it in SERVERS:
+            checks[f"a server, `{it}`"] = lambda folder, command=it: failing_server(program, library, folder, command)
         checks["serving in little space"] = lambda folder: served_in_little_space(program, folder)
         for name, check in checks.items():
             if only not in name:
