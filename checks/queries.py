@@ -5,6 +5,12 @@ It serves `(streams index)`, posts 100,000 events of about 120 bytes, of random 
 and for one host. Then it sends 1, 10, 100 and 5,400 queries `true` in one write, and an event from another client at once.
 It prints the times in milliseconds, the least and the median of some runs, and ends with status 1 if a reply is not the
 one that it has to be. With `--most N` no write has more queries than N. It ends what it starts.
+
+With `--expressions` it measures queries with regular expressions in place of these. None of them is found in an event.
+It prints for each what the server spends to build it, in milliseconds, and on a search of one event, in microseconds;
+and in seconds, for a query that holds as many of it as fit, and for a piece of 64 KB of such queries, if all events are
+searched. Then it prints how long another client waits for a query full of the first, and what memory the server takes
+for a query that is full of large expressions, and in which no event is looked at.
 """
 
 import argparse
@@ -18,14 +24,29 @@ import sys
 import tempfile
 import time
 
-from server import OK, expect, field, frame, query, varint
+from server import OK, ask, expect, field, frame, query, varint
 
 PORT = 15570
 EVENTS, SERVICES, FOUND = 100_000, 10, 20_000
 MESSAGE = 100
 LIMIT = 4_194_304
+NONE = b"\x10\x01"
 NOW = int(time.time())
 WRITES = (1, 10, 100, 5400)
+QUERY, PIECE = 4_096, 65_536
+# Tests, and how many events are searched to measure each, for ten of it.
+TESTS = {
+    'host ~= "^q"': 50_000,
+    'host ~= "q"': 50_000,
+    'host ~= "[a-z]+q"': 50_000,
+    'description ~= "([a-z]+ ?)+q"': 10_000,
+    'description ~= "(.?){99}q"': 1_000,
+    'description ~= "(.?){999}q"': 100,
+    'description ~= "(.?){9999}q"': 10,
+}
+TEN = 10
+NOBODY = b'host = "nobody"'
+LARGE = b'a ~= "(.?){9999}"'
 
 
 def event(number):
@@ -89,25 +110,95 @@ def show(name, times):
     print(f"{name}: {min(times):.2f} {statistics.median(times):.2f}", flush=True)
 
 
+def post(client, fields):
+    """Posts the events in a random order."""
+    fields = random.Random(1).sample(fields, EVENTS)
+    for first in range(0, EVENTS, MESSAGE):
+        client.sendall(frame(b"".join(fields[first : first + MESSAGE])))
+        expect(client, OK)
+
+
+def connected():
+    clients = connect(), connect()
+    for client in clients:
+        client.settimeout(1200)
+    return clients
+
+
+def full_query(test):
+    """As often the test as a query holds, so that an event that meets none of them is searched for each."""
+    return b" or ".join([test] * ((QUERY + 4) // (len(test) + 4)))
+
+
+def spent(server):
+    """The seconds that the server's process has spent on a processor."""
+    return int(pathlib.Path(f"/proc/{server.pid}/schedstat").read_text().split()[0]) / 1e9
+
+
+def peak(server):
+    """The most memory that the server has had, in KB."""
+    return int(pathlib.Path(f"/proc/{server.pid}/status").read_text().split("VmHWM:")[1].split()[0])
+
+
+def spent_on(server, client, text, times):
+    """The seconds that the server spends on the query, which finds nothing."""
+    before = spent(server)
+    for _ in range(times):
+        if asked(client, text) != NONE:
+            raise SystemExit(f"FAIL {text.decode()}: an event is found")
+    return (spent(server) - before) / times
+
+
+def measure_test(server, client, test, searched):
+    """What a test takes to be built, and to be searched for in one event. The events are chosen by their metrics."""
+    built = spent_on(server, client, NOBODY + b" and " + test, 20)
+    ten = b" or ".join([test] * TEN)
+    walk = spent_on(server, client, b"metric < 0", 20)
+    whole = spent_on(server, client, b"metric < %d and (" % searched + ten + b")", 3)
+    return built, (whole - walk - TEN * built) / searched / TEN
+
+
+def measure_expressions(server):
+    fields = [event(number) for number in range(EVENTS)]
+    client, other = connected()
+    post(client, fields)
+    print(f"{EVENTS} events: built, a search, a query of at most {QUERY} bytes, a piece of {PIECE}")
+    for text, searched in TESTS.items():
+        test = text.encode()
+        built, search = measure_test(server, client, test, searched)
+        whole = full_query(test)
+        taken = whole.count(test) * (built + EVENTS * search)
+        queries = PIECE // len(query(whole))
+        print(f"{text}: {1000 * built:.2f} {1e6 * search:.2f} {taken:.1f} {taken * queries:.0f}", flush=True)
+    first = full_query(next(iter(TESTS)).encode())
+    before = spent(server)
+    client.sendall(query(first))
+    time.sleep(0.0005)
+    waited, _ = timed(lambda: ask(other, frame(fields[7]), OK))
+    if reply(client) != NONE:
+        raise SystemExit("FAIL a query full of the first: an event is found")
+    taken = spent(server) - before
+    print(f"{first.count(b'~=')} of the first: another client waits {waited / 1000:.1f}, the server spends {taken:.1f}")
+    before, large = peak(server), full_query(LARGE)[: -len(NOBODY + b" and ()")]
+    large = NOBODY + b" and (" + large[: large.rindex(b" or ")] + b")"
+    taken = spent_on(server, client, large, 1)
+    print(f"{large.count(LARGE)} of {LARGE.decode()}, no event: {taken:.1f}, from {before} to {peak(server)} KB")
+
+
 def measure(most):
     fields = [event(number) for number in range(EVENTS)]
     few, host = b"".join(fields[:FOUND]), b"".join(fields[:SERVICES])
     size = 2 + sum(map(len, fields))
     refused = b"\x10\x00" + field(3, b"reply of %d bytes over %d" % (size, LIMIT))
-    random.Random(1).shuffle(fields)
-    client, other = connect(), connect()
-    client.settimeout(1200)
-    other.settimeout(1200)
-    for first in range(0, EVENTS, MESSAGE):
-        client.sendall(frame(b"".join(fields[first : first + MESSAGE])))
-        expect(client, OK)
+    client, other = connected()
+    post(client, fields)
     print(f"{EVENTS} events of {size // EVENTS} bytes, {FOUND} with the state \"few\"")
     for text, answer in (
         (b"true", refused),
         (b'state = "few"', b"\x10\x01" + few),
         (b'host = "host00000.net"', b"\x10\x01" + host),
         (b'state =~ "f%"', b"\x10\x01" + few),
-        (b"false", b"\x10\x01"),
+        (b"false", NONE),
     ):
         times = []
         for _ in range(15):
@@ -132,13 +223,17 @@ def main():
     arguments = argparse.ArgumentParser()
     arguments.add_argument("program")
     arguments.add_argument("--most", type=int, default=WRITES[-1])
+    arguments.add_argument("--expressions", action="store_true")
     given = arguments.parse_args()
     with tempfile.TemporaryDirectory() as folder:
         config = pathlib.Path(folder) / "config"
         config.write_text(f'(tcp-server {{:host "127.0.0.1" :port {PORT}}}) (streams index)')
         server = subprocess.Popen([given.program, "serve", str(config)])
         try:
-            measure(given.most)
+            if given.expressions:
+                measure_expressions(server)
+            else:
+                measure(given.most)
         finally:
             server.kill()
             server.wait()
