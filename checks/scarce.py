@@ -214,7 +214,7 @@ def silent_clients(checks):
 
 
 def clock_that_was_wrong(checks):
-    """A machine that boots in 1970: at ten hours a second, 56 years would take 13 hours."""
+    """A machine that boots in 1970: at ten turns a second, of an hour each, 56 years would take nearly 14 hours."""
     clock = Time(checks, -int(time.time()))
     with serving(checks, **clock.variables) as server, server.client() as client:
         if moment_of(client) > 60:
