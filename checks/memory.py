@@ -1,12 +1,13 @@
 #!/usr/bin/env python3
 """memory.py PROGRAM: refuses the built program memory, reads and writes, one after the other.
 
-For each case it runs the program once as it is, and counts its allocations. Then it runs it again for each of them: that
-one is refused, and that one and all later ones. The program has to end with status 6 and its line, having written a
-prefix of what it wrote before, or to do all that it did before. In the same way each read and each write fails, or moves
-one byte alone; of `send` and `query`, which talk to a server, each call of epoll fails too. Then calls of a server fail
-while two clients talk to it, for each of `serve`, `record` and `resume`: one link may break, or the server ends with its
-status, and its journal has all events that were answered. At last the address space is cut to 5, 6, .. 60 MB.
+For each case it runs the program once as it is, and counts its allocations. Then it runs it again for each of them:
+that one is refused, and that one and all later ones. The program has to end with status 6 and its line, having written
+a prefix of what it wrote before, or to do all that it did before. In the same way each read and each write fails, or
+moves one byte alone; of `send` and `query`, which talk to a server, each call of epoll fails too. Then calls of a
+server fail while two clients talk to it, for each of `serve`, `record` and `resume`: one link may break, or the server
+ends with its status, and its journal has all events that were answered. At last the address space is cut to 5, 6, .. 60
+MB.
 
 It prints a line for each case, and ends with status 1 if one failed. It takes some minutes and needs a C compiler: what
 is refused is refused by `refuse.c`, which it compiles. With `--only WORD` it runs the cases whose names have the word.
@@ -142,10 +143,10 @@ def tests():
     """Three tests, of which the last one does not pass."""
     changes = '(event {:host "a" :state "ok"}) (tick 10) (event {:host "a" :state "warning" :tags ["prod"]})'
     item = '{:host "a" :state "warning" :tags ["prod"] :time 10}'
-    text = f'(test "1" {changes} (expect "n" {item}))\n(test "2" (tick 70) (expect "n"))\n(test "3" {changes} (expect "n"))'
+    first, last = f'(test "1" {changes} (expect "n" {item}))', f'(test "3" {changes} (expect "n"))'
     return ["test", "c", "t"], {
         "c": '(streams (default :ttl 60 index) (by [:host] (changed :state {:init "ok"} (notice "n"))))',
-        "t": text,
+        "t": f'{first} (test "2" (tick 7) (expect "n")) {last}',
     }
 
 

@@ -1,10 +1,10 @@
 #!/usr/bin/env python3
 """scarce.py PROGRAM: tries the built program as a server where something is lacking, over loopback.
 
-Few open files, clients that are gone before they are accepted, urgent data, a client whose socket cannot be watched, 256
-clients that were silent for long, and a clock that was wrong. It prints a line for each check, and ends with status 1 if
-one failed. It takes some minutes, all but seconds of it for the clock, and ends what it starts. The last three checks need
-a C compiler, for `refuse.c` and `clock.c`.
+Few open files, clients that are gone before they are accepted, urgent data, a client whose socket cannot be watched,
+256 clients that were silent for long, and a clock that was wrong. It prints a line for each check, and ends with status
+1 if one failed. It takes some minutes, all but seconds of it for the clock, and ends what it starts. The last three
+checks need a C compiler, for `refuse.c` and `clock.c`.
 """
 
 import contextlib
@@ -20,9 +20,8 @@ import tempfile
 import time
 
 from journal import OPENED, read_journal
-from server import (
-    LINKS, OK, Checks, Failed, Server, ask, compiled, event, expect, frame, is_closed, query, receive, receive_frame, reply_of,
-)
+from server import LINKS, OK, Checks, Failed, Server, ask, compiled, event, expect, frame, is_closed, query, receive
+from server import receive_frame, reply_of
 
 PORT = 15558
 FILES = 20
