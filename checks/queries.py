@@ -2,9 +2,10 @@
 """queries.py PROGRAM: measures how long queries take, and for how long they keep another client waiting.
 
 It serves `(streams index)`, posts 100,000 events of about 120 bytes, of random keys, and asks for all of them, for 20,000
-and for one host. Then it sends 1, 10, 100 and 5,400 queries `true` in one write, and an event from another client at once.
-It prints the times in milliseconds, the least and the median of some runs, and ends with status 1 if a reply is not the
-one that it has to be. With `--most N` no write has more queries than N. It ends what it starts.
+and for one host. Then it sends 1, 10, 100 and 5,400 queries `true` in one write, and an event from another client at
+once; and the same with `not nil`, which all events meet too. It prints the times in milliseconds, the least and the
+median of some runs, and of these writes what the server spends, on the average. It ends with status 1 if a reply is not
+the one that it has to be. With `--most N` no write has more queries than N. It ends what it starts.
 
 With `--expressions` it measures queries with regular expressions in place of these. None of them is found in an event.
 It prints for each what the server spends to build it, in milliseconds, and on a search of one event, in microseconds;
@@ -33,6 +34,8 @@ LIMIT = 4_194_304
 NONE = b"\x10\x01"
 NOW = int(time.time())
 WRITES = (1, 10, 100, 5400)
+# Two rules that all events meet: the one of which the length of the reply is kept, and another one.
+ALL = (b"true", b"not nil")
 QUERY, PIECE = 4_096, 65_536
 # Tests, and how many events are searched to measure each, for ten of it.
 TESTS = {
@@ -87,9 +90,9 @@ def reply(client):
     return receive(client, struct.unpack(">I", receive(client, 4))[0])
 
 
-def after_queries(client, other, count):
+def after_queries(client, other, text, count):
     """The queries in one write, and then an event of another client, which is answered."""
-    client.sendall(query(b"true") * count)
+    client.sendall(query(text) * count)
     time.sleep(0.0005)
     other.sendall(frame(event(7)))
     expect(other, OK)
@@ -185,7 +188,7 @@ def measure_expressions(server):
     print(f"{large.count(LARGE)} of {LARGE.decode()}, no event: {taken:.1f}, from {before} to {peak(server)} KB")
 
 
-def measure(most):
+def measure(server, most):
     fields = [event(number) for number in range(EVENTS)]
     few, host = b"".join(fields[:FOUND]), b"".join(fields[:SERVICES])
     size = 2 + sum(map(len, fields))
@@ -207,16 +210,21 @@ def measure(most):
                 raise SystemExit(f"FAIL {text.decode()}: {len(found)} bytes, and not {len(answer)}")
             times.append(taken)
         show(text.decode(), times)
-    for count in WRITES:
-        if count > most:
-            continue
-        times = []
-        for _ in range(max(1, min(9, 200 // count))):
-            times.append(timed(lambda: after_queries(client, other, count))[0])
-            for _ in range(count):
-                if reply(client) != refused:
-                    raise SystemExit("FAIL a query of all")
-        show(f"another client waits, {count} queries", times)
+    for text in ALL:
+        for count in WRITES:
+            # As many as a piece holds.
+            count = min(count, PIECE // len(query(text)))
+            if count > most:
+                continue
+            times, before = [], spent(server)
+            runs = max(1, min(9, 200 // count))
+            for _ in range(runs):
+                times.append(timed(lambda: after_queries(client, other, text, count))[0])
+                for _ in range(count):
+                    if reply(client) != refused:
+                        raise SystemExit(f"FAIL a query {text.decode()}")
+            show(f"another client waits, {count} queries {text.decode()}", times)
+            print(f"the server spends {1000 * (spent(server) - before) / runs:.2f}", flush=True)
 
 
 def main():
@@ -233,7 +241,7 @@ def main():
             if given.expressions:
                 measure_expressions(server)
             else:
-                measure(given.most)
+                measure(server, given.most)
         finally:
             server.kill()
             server.wait()
