@@ -12,3 +12,5 @@ pub mod Loops
 pub mod Kept
 pub mod Taken
 pub mod Unpacked
+pub mod Sought
+pub mod OneField

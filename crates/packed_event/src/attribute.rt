@@ -1,8 +1,8 @@
 //! One attribute.
 
-ghost use Rattle.std.specs.Prelude.{◌≡◌, ◌<◌, length, IfOk, IfSome};
+ghost use Rattle.std.specs.Prelude.{◌≡◌, ◌<◌, length, if◌then◌else◌, option_copied, IfOk, IfSome};
 ghost use Rattle.std.specs.Option.{option_map};
-ghost use Rattle.std.specs.Str.{IsUtf8};
+ghost use Rattle.std.specs.Str.{IsUtf8, bytes_eq};
 ghost use Rattle.riemann_msg.specs.ReadBack.{IsWellFormedAttribute};
 ghost use Rattle.packed_event.specs.Reading.{Gives, attribute_in, attribute_part, required, text_part};
 ghost use Rattle.packed_event.specs.Unpacking.{attribute_read};
@@ -33,6 +33,21 @@ impl AttrParts<'_> {
             key: owned(alloc, self.key)?,
             value: owned_option(alloc, self.value)?,
         })
+    }
+}
+
+impl<'a> AttrParts<'a> {
+    /// Its value if it has this key, and else what an earlier attribute held.
+    #[inline]
+    pub(crate) fn value_or(self, key: &[u8], earlier: Option<&'a [u8]>) -> Option<&'a [u8]>
+        ensures value { option_copied result ≡ (if bytes_eq self.entry.key.now key.now then
+            option_copied self.entry.value else
+            option_copied earlier.entry) }
+        ensures utf8 { IsWellFormedAttribute (attribute_read self.entry)
+            → IfSome earlier.entry (λ text. IsUtf8 text.now)
+            → IfSome result (λ text. IsUtf8 text.now) }
+    {
+        if self.key == key { self.value } else { earlier }
     }
 }
 

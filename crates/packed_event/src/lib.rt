@@ -4,6 +4,7 @@
 
 mod attribute;
 mod body;
+mod fields;
 mod law;
 mod names;
 mod numbers;

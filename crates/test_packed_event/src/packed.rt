@@ -5,14 +5,14 @@ use std::test::Fail;
 
 /// An event with each field: the state "ok", the service "bb", the host "a", a description, two tags, 60 seconds, an
 /// attribute without a value and one with, 1.5 seconds, -3, and the bits of two numbers.
-const FULL: &[u8] =
+pub(crate) const FULL: &[u8] =
     b"\x08\x01\x12\x02ok\x1a\x02bb\x22\x01a\x2a\x01d\x3a\x01t\x3a\x00\x45\x00\x00\x70\x42\x4a\x03\x0a\x01k\x4a\x06\x0a\x01k\x12\x01v\x50\xe0\xc6\x5b\x68\x05\x71\x01\x02\x03\x04\x05\x06\x07\x08\x7d\x01\x02\x03\x04";
 
 /// An event that ends that of its service.
-const LAST: &[u8] = b"\x08\x80\x01\x12\x07expired\x1a\x01s";
+pub(crate) const LAST: &[u8] = b"\x08\x80\x01\x12\x07expired\x1a\x01s";
 
 /// The event of these bytes, if they are those that this server writes.
-fn packed(alloc: Global, bytes: &[u8]) -> Result<Option<PackedEvent>, Memory> {
+pub(crate) fn packed(alloc: Global, bytes: &[u8]) -> Result<Option<PackedEvent>, Memory> {
     let Some(places) = places_of(bytes) else {
         return Ok(None);
     };
