@@ -4,6 +4,8 @@
 #[cfg(test)]
 mod fields;
 #[cfg(test)]
+mod keys;
+#[cfg(test)]
 mod packed;
 #[cfg(test)]
 mod rows;
