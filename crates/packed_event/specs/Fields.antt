@@ -1,7 +1,8 @@
 -- Reading one field of an event from its bytes, if they are those that this server writes: words of the private
 -- functions that read. No public clause cites them.
 use Rattle.std.specs.Prelude.{ℕ, ℤ, List, length, Option, Some}
-use Rattle.packed_event.specs.Reading.{◌>>=◌, attribute_part, int64_part, names_part, numbers_part, optional, repeated, required, text_part, ttl_part}
+use Rattle.packed_event.specs.Reading.{◌>>=◌, attribute_part, int64_part, names_part, numbers_part, optional, repeated}
+use Rattle.packed_event.specs.Reading.{required, text_part, ttl_part}
 
 unfoldable pub state_part : List ℕ → Option (Option (List ℕ))
 state_part bytes = do

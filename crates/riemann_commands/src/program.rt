@@ -92,8 +92,8 @@ fn names_client(words: &[Text]) -> bool
     }
 }
 
-/// Answers `--help` and `--version`, and carries out any other command. Arguments that could not be read have the status
-/// and the line of their fault, and nothing but `err` is written to.
+/// Answers `--help` and `--version`, and carries out any other command. Arguments that could not be read have the
+/// status and the line of their fault, and nothing but `err` is written to.
 pub fn run<S: Store, L: Links, D: Disk, O: Sink, E: Sink, P: Patterns, G: Ledger>(
     alloc: Global,
     arguments: Result<Vec<Text>, ArgumentsFault>,

@@ -22,7 +22,8 @@ each-preserved c = (
   latest_more c.args.key.now 74 c.args.bytes.now c.each.rest.now c.in-Some.attribute.now
       c.in-Some-attribute_at.after.now (attribute_read c.in-Some-attribute_at.parts) (option_copied c.each.last)
       (option_copied c.value_or-last.result) c.each.invariant.0 c.in-Some.ensures.reads
-      c.in-Some-attribute_at.ensures.reads (omega (arith, c.in-Some-attribute_at.ensures.shorter)) c.value_or-last.ensures.value,
+      c.in-Some-attribute_at.ensures.reads (omega (arith, c.in-Some-attribute_at.ensures.shorter))
+      c.value_or-last.ensures.value,
   c.value_or-last.ensures.utf8 c.in-Some-attribute_at.ensures.well_formed c.each.invariant.1,
 )
 
