@@ -92,8 +92,8 @@ fn names_client(words: &[Text]) -> bool
     }
 }
 
-/// Answers `--help` and `--version`, and carries out any other command. Arguments that could not be read have the
-/// status and the line of their fault, and nothing but `err` is written to.
+/// Answers `--help` and `--version`, for which it writes to `out` alone, and carries out any other command. Arguments
+/// that could not be read have the status and the line of their fault, and nothing but `err` is written to.
 pub fn run<S: Store, L: Links, D: Disk, O: Sink, E: Sink, P: Patterns, G: Ledger>(
     alloc: Global,
     arguments: Result<Vec<Text>, ArgumentsFault>,
@@ -115,8 +115,14 @@ pub fn run<S: Store, L: Links, D: Disk, O: Sink, E: Sink, P: Patterns, G: Ledger
         (steps.new ≡ steps.old)) result) }
     ensures help { IfOk arguments (λ given. given.items ≡ help_words →
         WritesText HELP.now (O.report out.old) (O.report out.new) result) }
+    ensures help_alone { IfOk arguments (λ given. given.items ≡ help_words →
+        (store.new ≡ store.old) × (links.new ≡ links.old) × (disk.new ≡ disk.old) ×
+        (err.new ≡ err.old) × (patterns.new ≡ patterns.old) × (steps.new ≡ steps.old)) }
     ensures version { IfOk arguments (λ given. given.items ≡ version_words →
         WritesText VERSION.now (O.report out.old) (O.report out.new) result) }
+    ensures version_alone { IfOk arguments (λ given. given.items ≡ version_words →
+        (store.new ≡ store.old) × (links.new ≡ links.old) × (disk.new ≡ disk.old) ×
+        (err.new ≡ err.old) × (patterns.new ≡ patterns.old) × (steps.new ≡ steps.old)) }
     ensures not_utf8 { arguments ≡ Err ArgumentsFault.NotUtf8 → (result ≡ Status.Usage) ×
         GotLineOf usage_line (E.report err.old) (E.report err.new) }
     ensures memory { arguments ≡ Err ArgumentsFault.Memory → (result ≡ Status.Memory) ×
