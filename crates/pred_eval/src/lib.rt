@@ -13,5 +13,5 @@ pub use finder::Finder;
 pub use patterns::{BuildFault, ListPatterns, PatternAnswer, Patterns, RegexPatterns, build_all};
 pub use pred::{Pred, append_texts};
 pub use rule::{Ordering, Rule, Rules};
-pub use truth::{pattern_count, rule_holds};
+pub use truth::{pattern_count, rule_holds, rule_holds_of};
 pub use wild::{is_wild, wild_texts_are_joined};

@@ -9,9 +9,10 @@ ghost use Rattle.pred_eval.specs.Building.{texts_of, HasCause, refused_of};
 
 use crate::host::asked_host;
 use crate::patterns::build_all;
-use crate::truth::rule_holds;
+use crate::truth::{rule_holds, rule_holds_of};
 use crate::{BuildFault, Finder, Patterns, Rule, Rules};
 use ev_types::{Event, Memory, Text, Value};
+use event_fields::EventFields;
 use std::alloc::Global;
 use std::marker::Model;
 
@@ -65,6 +66,15 @@ impl Pred {
         ensures same { self.new ≡ self.old }
     {
         rule_holds(alloc, &self.rule, self.patterns.as_slice(), event)
+    }
+
+    /// Whether the event meets the rule, however it is kept. If the rule has no regular expression, it takes no memory.
+    pub fn holds_of<E: EventFields>(&mut self, alloc: Global, event: &E) -> Result<bool, Memory>
+        ensures truth { IfOk result (λ met. met ≡ holds self.old (E.event event.now)) }
+        ensures memory { searches self.old ≡ [] → IsOk result }
+        ensures same { self.new ≡ self.old }
+    {
+        rule_holds_of(alloc, &self.rule, self.patterns.as_slice(), event)
     }
 
     /// The host that an event needs to meet the rule: `v` of `host = v`, or of the first such part of an `and`. `None`

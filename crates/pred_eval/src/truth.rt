@@ -7,7 +7,8 @@ ghost use Rattle.pred_eval.specs.Wild.{is_wild};
 
 use crate::wild::is_wild;
 use crate::{Finder, Rule, Rules};
-use ev_types::{Event, Memory, Text, field_is, field_number, field_text};
+use ev_types::{Event, Memory};
+use event_fields::{EventFields, holds_value};
 use std::alloc::Global;
 
 /// Whether the event meets the rule, where these are its regular expressions, in the order in which they are written;
@@ -25,10 +26,29 @@ pub fn rule_holds(
     meets(alloc, rule, patterns, event)
 }
 
-#[cycle(meets)]
-fn meets(alloc: Global, rule: &Rule, patterns: &[Finder], event: &Event) -> Result<bool, Memory>
+/// Whether the event, however it is kept, meets the rule, as [`rule_holds`] says.
+pub fn rule_holds_of<E: EventFields>(
+    alloc: Global,
+    rule: &Rule,
+    patterns: &[Finder],
+    event: &E,
+) -> Result<bool, Memory>
     ensures truth { AreReadFrom (searches (tree_of rule.now)) patterns.now →
-        IfOk result (λ met. met ≡ holds (tree_of rule.now) event.now) }
+        IfOk result (λ met. met ≡ holds (tree_of rule.now) (E.event event.now)) }
+    ensures memory { searches (tree_of rule.now) ≡ [] → IsOk result }
+{
+    meets(alloc, rule, patterns, event)
+}
+
+#[cycle(meets)]
+fn meets<E: EventFields>(
+    alloc: Global,
+    rule: &Rule,
+    patterns: &[Finder],
+    event: &E,
+) -> Result<bool, Memory>
+    ensures truth { AreReadFrom (searches (tree_of rule.now)) patterns.now →
+        IfOk result (λ met. met ≡ holds (tree_of rule.now) (E.event event.now)) }
     ensures memory { searches (tree_of rule.now) ≡ [] → IsOk result }
 {
     match rule {
@@ -37,33 +57,33 @@ fn meets(alloc: Global, rule: &Rule, patterns: &[Finder], event: &Event) -> Resu
         Rule::Not(rule) => Ok(!meets(alloc, rule, patterns, event)?),
         Rule::All(rules) => meets_all(alloc, rules, patterns, event),
         Rule::Any(rules) => meets_any(alloc, rules, patterns, event),
-        Rule::Tagged(tag) => Ok(event.has_tag(tag)),
-        Rule::Equal { field, value } => Ok(field_is(event, field, value)),
+        Rule::Tagged(tag) => Ok(event.is_tagged(tag)),
+        Rule::Equal { field, value } => Ok(holds_value(event, field, value)),
         Rule::Order {
             field,
             order,
             number,
-        } => match field_number(event, field) {
+        } => match event.number_in(field) {
             Some(value) => Ok(order.holds_of(value, *number)),
             None => Ok(false),
         },
-        Rule::Wild { field, pattern } => match field_text(event, field) {
+        Rule::Wild { field, pattern } => match event.text_in(field) {
             Some(text) => Ok(is_wild(pattern.as_bytes(), text.as_bytes())),
             None => Ok(false),
         },
-        Rule::Search { field, pattern: _ } => search(alloc, patterns, field_text(event, field)),
+        Rule::Search { field, pattern: _ } => search(alloc, patterns, event.text_in(field)),
     }
 }
 
 #[cycle(meets)]
-fn meets_all(
+fn meets_all<E: EventFields>(
     alloc: Global,
     rules: &Rules,
     patterns: &[Finder],
-    event: &Event,
+    event: &E,
 ) -> Result<bool, Memory>
     ensures truth { AreReadFrom (searches_of (trees_in rules.now.items)) patterns.now →
-        IfOk result (λ met. met ≡ all_hold (trees_in rules.now.items) event.now) }
+        IfOk result (λ met. met ≡ all_hold (trees_in rules.now.items) (E.event event.now)) }
     ensures memory { searches_of (trees_in rules.now.items) ≡ [] → IsOk result }
 {
     let mut left = patterns;
@@ -79,14 +99,14 @@ fn meets_all(
 }
 
 #[cycle(meets)]
-fn meets_any(
+fn meets_any<E: EventFields>(
     alloc: Global,
     rules: &Rules,
     patterns: &[Finder],
-    event: &Event,
+    event: &E,
 ) -> Result<bool, Memory>
     ensures truth { AreReadFrom (searches_of (trees_in rules.now.items)) patterns.now →
-        IfOk result (λ met. met ≡ any_holds (trees_in rules.now.items) event.now) }
+        IfOk result (λ met. met ≡ any_holds (trees_in rules.now.items) (E.event event.now)) }
     ensures memory { searches_of (trees_in rules.now.items) ≡ [] → IsOk result }
 {
     let mut left = patterns;
@@ -145,13 +165,13 @@ fn count_patterns(rules: &Rules) -> usize
 }
 
 // Whether the first of the patterns is found in the text, where there is one.
-fn search(alloc: Global, patterns: &[Finder], text: Option<&Text>) -> Result<bool, Memory>
+fn search(alloc: Global, patterns: &[Finder], text: Option<&str>) -> Result<bool, Memory>
     ensures { IfOk result (λ found. (pattern : List ℕ) →
         AreReadFrom (pattern ∷ []) patterns.now →
         found ≡ is_text_with (finds pattern) (option_copied text.entry)) }
 {
     match (patterns.first(), text) {
-        (Some(finder), Some(text)) => finder.is_found(alloc, text.as_str()),
+        (Some(finder), Some(text)) => finder.is_found(alloc, text),
         _ => Ok(false),
     }
 }

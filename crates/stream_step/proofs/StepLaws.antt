@@ -28,7 +28,7 @@ use Rattle.stream_step.specs.declared.passed.Passed.TheVariants.{Keyed}
 use Rattle.stream_step.specs.Step.{AreAt, ended_by, emissions_meant, HasNumbers, is_kept, Keeps, StateRepresents}
 use Rattle.stream_step.specs.Step.{QuietTicksKeepStates}
 use Rattle.stream_step.specs.declared.state.State.{State}
-use Rattle.stream_step.specs.declared.state.State.TheVariants.{Bare, Rule, Kept, Forks}
+use Rattle.stream_step.specs.declared.state.State.TheVariants.{Empty, Rule, Kept, Forks}
 use Rattle.stream_step.proofs.KeptLaws.{kept_still}
 
 module _ (own : List (List ℕ)) (first count : ℕ) (texts : List (List ℕ)) (regexes : List Regex)
@@ -80,7 +80,7 @@ to_otherwise_if met test is fails = ap (λ (b : Bool). cond b Children Otherwise
 
 pub numbers_of : (texts : List (List ℕ)) (kind : KindTree) (state : State) (h : History) → is_kept state ≡ false
     → Keeps texts kind state h → HasNumbers texts kind state
-numbers_of texts kind Bare h bare keeps = keeps
+numbers_of texts kind Empty h bare keeps = keeps
 numbers_of texts kind (Rule first count) h bare keeps = keeps
 numbers_of texts kind (Kept kept) h bare keeps = cc
 numbers_of texts kind (Forks first) h bare keeps = keeps
@@ -98,7 +98,7 @@ kept_holds texts kind state kept next h after is goes represents =
 
 keeps_on : (texts : List (List ℕ)) (kind : KindTree) (state : State) (h : History) → emissions kind (h ▸ Tick) ≡ []
     → Keeps texts kind state h → Keeps texts kind state (h ▸ Tick)
-keeps_on texts kind Bare h quiet keeps = keeps
+keeps_on texts kind Empty h quiet keeps = keeps
 keeps_on texts kind (Rule first count) h quiet keeps = keeps
 keeps_on texts kind (Kept kept) h quiet keeps = kept_still kind kept h keeps quiet
 keeps_on texts kind (Forks first) h quiet keeps = keeps

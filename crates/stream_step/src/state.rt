@@ -21,7 +21,7 @@ use stream_states::KeptState;
 #[derive(Drop)]
 pub enum State {
     /// Nothing.
-    Bare,
+    Empty,
     /// The numbers of its rule's regular expressions among those of the plan.
     Rule { first: usize, count: usize },
     /// What a stream of a kind that keeps something has to know of what came.
@@ -73,7 +73,7 @@ impl State {
         match kind {
             Kind::Where(rule) => State::of_rule(rule, next),
             Kind::By { .. } => State::Forks { first: *next },
-            _ => State::Bare,
+            _ => State::Empty,
         }
     }
 

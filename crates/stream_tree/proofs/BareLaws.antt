@@ -18,7 +18,7 @@ use Rattle.stream_meaning.specs.History.{History, ◌▸◌}
 use Rattle.stream_meaning.specs.Laws.{own_outputs}
 use Rattle.stream_meaning.specs.Outputs.{Effect, stream_effects, plan_effects, outputs_among, outputs_at, due_among}
 use Rattle.stream_meaning.specs.Outputs.{given_among}
-use Rattle.stream_step.specs.declared.state.State.TheVariants.{Bare}
+use Rattle.stream_step.specs.declared.state.State.TheVariants.{Empty}
 use Rattle.stream_step.specs.Step.{StateRepresents}
 use Rattle.stream_tree.specs.declared.forest.Node.{Node}
 use Rattle.stream_tree.specs.Forest.{IsBare, AllBare, ForestRepresents}
@@ -29,7 +29,7 @@ use Rattle.stream_tree.proofs.PerformLaws.{due-append, given-append}
 -- ---- one stream
 
 pub bare_state : (texts : List (List ℕ)) (s : StreamTree) (h : History) → IsBare s
-    → StateRepresents texts (kind_of s) Bare h
+    → StateRepresents texts (kind_of s) Empty h
 bare_state texts (stream Index none none) h bare = record { in_range = refl; keeps = refl }
 bare_state texts (stream (Notice name) none none) h bare = record { in_range = refl; keeps = refl }
 bare_state texts s h bare = absurd bare

@@ -15,7 +15,7 @@ use Rattle.stream_meaning.specs.History.{History, ◌▸◌, moment_of}
 use Rattle.stream_meaning.specs.Laws.{own_outputs}
 use Rattle.stream_meaning.specs.Outputs.{Effect, stream_effects, plan_effects, outputs_among, outputs_at}
 use Rattle.stream_meaning.proofs.OutputLaws.{outputs_among-append}
-use Rattle.stream_step.specs.declared.state.State.TheVariants.{Bare}
+use Rattle.stream_step.specs.declared.state.State.TheVariants.{Empty}
 use Rattle.stream_step.specs.Step.{StateRepresents}
 use Rattle.stream_tree.specs.Forest.{IsBare, AllBare}
 use Rattle.stream_tree.specs.Running.{kind_of, ComesAt, BareRun, BareStop}
@@ -72,16 +72,16 @@ module _ (patterns : List Regex) (start moment : ℕ) (x : Entry) (a : List Outp
 
   state_here : (i : ℕ) (s : Stream) (texts : List (List ℕ)) (h : History) → i < length streams →
       s ≡ get_or streams i s → AllBare (list_trees streams) →
-      StateRepresents texts (kind_tree (out-Stream s).kind) Bare h
+      StateRepresents texts (kind_tree (out-Stream s).kind) Empty h
   state_here i s texts h within is bare =
-      subst (λ (kind : KindTree). StateRepresents texts kind Bare h) (own_kind s)
+      subst (λ (kind : KindTree). StateRepresents texts kind Empty h) (own_kind s)
       (bare_state texts (opened s) h
       (subst (λ (t : Stream). IsBare (opened t)) (sym is) (bare_at streams i s within bare)))
 
   pub bare_says_more : (i : ℕ) (b c : List Output) (s : Stream) → i < length streams → s ≡ get_or streams i s →
       BareRan i b →
       ((texts : List (List ℕ)) (h : History) → AreReadFrom texts patterns →
-      StateRepresents texts (kind_tree (out-Stream s).kind) Bare h → moment_of (h ▸ x) ≡ moment → moment ≤ 2 ^ 40 →
+      StateRepresents texts (kind_tree (out-Stream s).kind) Empty h → moment_of (h ▸ x) ≡ moment → moment ≤ 2 ^ 40 →
       c ≡ b ++ own_outputs (kind_tree (out-Stream s).kind) (h ▸ x)) →
       BareRan (i + 1) c
   bare_says_more i b c s within is so_far says texts h from bare comes =

@@ -82,7 +82,7 @@ fn act_bare(
     ensures prefix { IsPrefix out.old out.new }
 {
     for stream in streams {
-        act(alloc, &stream.kind, &mut State::Bare, entry, context, out)?;
+        act(alloc, &stream.kind, &mut State::Empty, entry, context, out)?;
     }
     Ok(())
 }
