@@ -1,5 +1,5 @@
 -- Lines that were written to a sink, one after another.
-use Rattle.std.proofs.Common.{◌≡◌, ℕ, suc, ◌+◌, ◌<◌, ◌≤◌, ◌⊎◌, inl, inr, List, [], ◌∷◌, ◌++◌, length, get_or, take}
+use Rattle.std.proofs.Common.{◌≡◌, ◌≢◌, ℕ, suc, ◌+◌, ◌<◌, ◌≤◌, ◌⊎◌, inl, inr, List, [], ◌∷◌, ◌++◌, length, get_or, take}
 use Rattle.std.proofs.Common.{drop, refl, ap, sym, ◌∙◌, arith, append-nil, append_assoc, subst}
 use Rattle.std.specs.Prelude.{Option, Some, None}
 use Rattle.std.specs.Option.{option_map}
@@ -101,11 +101,16 @@ next_line notices i notice within is =
 part_of : (n : ℕ) (bytes : List ℕ) → IsPrefix (take n bytes) bytes
 part_of n bytes = (drop n bytes, sym (take-append-drop n bytes))
 
+some_length : (notices : List Notice) → notices ≢ [] → 0 < length notices
+some_length [] some = absurd (some refl)
+some_length (notice ∷ notices) some = omega arith
+
 -- nothing was written
 pub first_nothing : (got : SinkReport) (notices : List Notice) → GotFirstLines got notices got
 first_nothing got notices = record {
   whole = 0;
   within = omega arith;
+  missing = some_length notices;
   part = [];
   next = (lines_of (take 1 (drop 0 notices)), refl);
   text = got_nothing got.text;
@@ -120,6 +125,7 @@ pub first_then : (old mid new : SinkReport) (notices : List Notice) (i : ℕ) (n
 first_then old mid new notices i notice within is got puts prefix same = record {
   whole = i;
   within = omega arith;
+  missing = λ _. within;
   part = take prefix.0 (notice_line notice);
   next = subst (λ (bytes : List ℕ). IsPrefix (take prefix.0 (notice_line notice)) bytes)
       (sym (next_line notices i notice within is)) (part_of prefix.0 (notice_line notice));

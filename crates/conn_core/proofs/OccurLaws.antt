@@ -2,7 +2,6 @@
 use Rattle.std.proofs.Common.{◌≡◌, ◌≢◌, ℕ, Bool, true, false, cond, ◌||◌, List, [], ◌∷◌, get_or, set, Result, Ok, Err}
 use Rattle.std.proofs.Common.{refl, ap, sym, ◌∙◌, subst, append-nil}
 use Rattle.std.specs.Prelude.{IsErr, Option, Some, None, OnOk}
-use Rattle.ev_types.specs.declared.event.Event.{Event}
 use Rattle.hub_link.specs.event_core.declared.arrivals.Core.{Core}
 use Rattle.hub_link.specs.event_core.Core.{CoreConfig, Represents, config_of}
 use Rattle.framing.specs.Frames.{length_at, partial}
@@ -24,6 +23,7 @@ use Rattle.hub_link.specs.HubLink.{RepresentsLink}
 use Rattle.link_table.specs.Kept.{IsAbsent, IsAt, Kept}
 use Rattle.list_laws.specs.declared.memory.Memory.{Memory}
 use Rattle.hub_link.specs.msg_replies.Arriving.{Reported}
+use Rattle.hub_link.specs.msg_replies.declared.spare.Spare.{Spare}
 use Rattle.hub_link.proofs.MsgRepliesAnswerLaws.{heard_nothing}
 use Rattle.hub_link.proofs.MsgRepliesVerdictLaws.{no_verdicts}
 use Rattle.ports.specs.declared.entry.Entry.{Entry}
@@ -335,13 +335,13 @@ module _ (number count place : ℕ) (piece : List ℕ) (hub : Hub) (core' : Core
         done = none_ok _ result failed;
       }
 
-  heard_whole : (table' : Kept HubLink) (spent : List Event) (result : Result (Unit {0}) Memory) (run : List Entry)
+  heard_whole : (table' : Kept HubLink) (spare : Spare) (result : Result (Unit {0}) Memory) (run : List Entry)
       → HearsPiece piece value value' hub.core core' patterns patterns' old new (Ok tt)
       → Settles (record hub.table { values = set hub.table.values place value' }) table' number place result run
       → (state : RunState) → RepresentsState hub (config_of hub.core) state → AreSettled state.links
-      → Occurs (Read number count) piece (record hub { core = core'; table = table'; spent = spent }) patterns patterns'
+      → Occurs (Read number count) piece (record hub { core = core'; table = table'; spare = spare }) patterns patterns'
       old new result (config_of hub.core) state run
-  heard_whole table' spent result run hears settles state at settled =
+  heard_whole table' spare result run hears settles state at settled =
       let config : CoreConfig = config_of hub.core in
       let found = focus_found hub.table number place state.links at.links settled at_place in
       let meant : Link = found.meant in
@@ -367,12 +367,12 @@ module _ (number count place : ℕ) (piece : List ℕ) (hub : Hub) (core' : Core
         legal = subst (IsLegalFrom config (plain run)) (sym is) reach.legal;
         done =
             on_ok result (λ ends. subst
-            (λ (s : RunState). Done (record hub { core = core'; table = table'; spent = spent }) config state
+            (λ (s : RunState). Done (record hub { core = core'; table = table'; spare = spare }) config state
             (state_from config (plain run) s) old new)
             (sym is)
             (subst
             (λ (after : RunState).
-            Done (record hub { core = core'; table = table'; spent = spent }) config state after old new)
+            Done (record hub { core = core'; table = table'; spare = spare }) config state after old new)
             (sym ends.leads) (record {
               at = record {
                 arrivals = subst (Represents core') (sym heard.arrivals) heard.arrives.represents;
@@ -387,15 +387,15 @@ module _ (number count place : ℕ) (piece : List ℕ) (hub : Hub) (core' : Core
             }))) reach.ends;
       }
 
-  pub occurs_heard : (table' : Kept HubLink) (spent : List Event) (result : Result (Unit {0}) Memory) (run : List Entry)
+  pub occurs_heard : (table' : Kept HubLink) (spare : Spare) (result : Result (Unit {0}) Memory) (run : List Entry)
       → HearsPiece piece value value' hub.core core' patterns patterns' old new (Ok tt)
       → Settles (record hub.table { values = set hub.table.values place value' }) table' number place result run
-      → OccursFrom (Read number count) piece hub (record hub { core = core'; table = table'; spent = spent }) patterns
+      → OccursFrom (Read number count) piece hub (record hub { core = core'; table = table'; spare = spare }) patterns
       patterns' old new result run
-  occurs_heard table' spent result run hears settles config state at settled =
+  occurs_heard table' spare result run hears settles config state at settled =
       subst
-      (λ (c : CoreConfig). Occurs (Read number count) piece (record hub { core = core'; table = table'; spent = spent })
+      (λ (c : CoreConfig). Occurs (Read number count) piece (record hub { core = core'; table = table'; spare = spare })
       patterns patterns' old new result c state run)
       at.config_is
-      (heard_whole table' spent result run hears settles state
+      (heard_whole table' spare result run hears settles state
       (record { arrivals = at.arrivals; config_is = refl; now = at.now; links = at.links }) settled)

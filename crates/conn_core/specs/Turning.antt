@@ -1,6 +1,6 @@
 -- What a turn does.
-use Rattle.std.specs.Prelude.{◌≡◌, ◌≢◌, ℕ, zero, suc, ◌+◌, ◌≤◌, List, [], ◌∷◌, ◌++◌, length, take, drop, Option, Result}
-use Rattle.std.specs.Prelude.{Err, OnOk, OnErr}
+use Rattle.std.specs.Prelude.{◌≡◌, ◌≢◌, ℕ, zero, suc, ◌+◌, ◌<◌, ◌≤◌, List, [], ◌∷◌, ◌++◌, length, take, drop, Option}
+use Rattle.std.specs.Prelude.{Result, Err, OnOk, OnErr}
 use Rattle.std.specs.Option.{option_map}
 use Rattle.ev_types.specs.declared.item.Notice.{Notice}
 use Rattle.hub_link.specs.event_core.Core.{CoreConfig, forks_by}
@@ -39,6 +39,8 @@ pub record GotLines (old : SinkReport) (notices : List Notice) (new : SinkReport
 pub record GotFirstLines (old : SinkReport) (notices : List Notice) (new : SinkReport) : Type 0 where
   pub whole : ℕ
   pub within : whole ≤ length notices
+  -- where there are lines, not all were put
+  pub missing : notices ≢ [] → whole < length notices
   pub part : List ℕ
   pub next : IsPrefix part (lines_of (take 1 (drop whole notices)))
   pub text : Got old.text (lines_of (take whole notices) ++ part) new.text

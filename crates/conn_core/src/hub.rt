@@ -16,10 +16,10 @@ use crate::stop::Stop;
 use ev_types::{LATEST_MOMENT, Memory, Notices, SECONDS_PER_TURN};
 use hub_link::HubLink;
 use hub_link::event_core::Core;
+use hub_link::msg_replies::Spare;
 use link_table::LinkTable;
 use ports::{Links, Sink, Turn, Wants, What};
 use pred_eval::Patterns;
-use riemann_msg::SpentEvents;
 use std::alloc::Global;
 use step_count::{Ledger, Steps};
 
@@ -28,8 +28,8 @@ use step_count::{Ledger, Steps};
 pub struct Hub {
     core: Core,
     table: LinkTable<HubLink>,
-    // Events that nobody needs any more, into whose memory the next message is read.
-    spent: SpentEvents,
+    // Memory that messages are read into.
+    spare: Spare,
 }
 
 impl Hub {
@@ -43,7 +43,7 @@ impl Hub {
         Ok(Hub {
             core,
             table: LinkTable::fresh(alloc),
-            spent: SpentEvents::fresh(alloc),
+            spare: Spare::fresh(alloc),
         })
     }
 
@@ -155,7 +155,7 @@ impl Hub {
         self.table.value_mut(place).hear(
             alloc,
             piece,
-            &mut self.spent,
+            &mut self.spare,
             &mut self.core,
             patterns,
             notices,

@@ -15,7 +15,8 @@ use Rattle.step_count.specs.Count.{StepCount}
 use Rattle.stream_meaning.specs.History.{◌▸◌}
 use Rattle.stream_meaning.specs.declared.entry.Entry.{Entry}
 use Rattle.stream_meaning.specs.declared.entry.Entry.TheVariants.{Item as In}
-use Rattle.stream_meaning.specs.Outputs.{plan_effects, outputs_among, outputs_at, outputs_of, due_among, given_among}
+use Rattle.stream_meaning.specs.Outputs.{Put, plan_effects, outputs_among, outputs_at, outputs_of, due_among}
+use Rattle.stream_meaning.specs.Outputs.{given_among}
 use Rattle.stream_meaning.specs.Arrivals.{CoreState, writes_among, notices_among, entered}
 use Rattle.event_core.specs.declared.streams.IndexedStreams.{IndexedStreams}
 use Rattle.event_core.specs.Streams.{Holds, Moved}
@@ -139,6 +140,30 @@ module _ {G : Type 0} (plan : StreamTrees) (event : Event) (streams : IndexedStr
       is_none history index (outputs-by true is)
       (handled-index held between streams.index outputs (write event) handled written')
       (handled-notices old new new outputs (write event) reported (sym (append-nil new))) left
+
+-- an event came to a tree that leaves its write and does nothing else
+pub event-unseen : {G : Type 0} (plan : StreamTrees) (event : Event) (streams : IndexedStreams) (held : Index)
+    (state : CoreState) (steps : StepCount G) (out : List Notice) →
+    plan_effects plan (state.history ▸ In (One event)) ≡ Put (write event) ∷ [] →
+    tree.Represents streams.tree (state.history ▸ In (One event)) → Represents held state.log →
+    ((log : IndexLog) → Represents held log → Represents streams.index (log ++ Write event ∷ [])) →
+    streams.outputs ≡ [] →
+    Moved plan streams state (entered plan (In (One event)) state) out steps.forks out steps.forks
+event-unseen plan event streams held state steps out is history index written left =
+    let grew : tree.Performs [] steps (write event ∷ []) steps (plan_effects plan (state.history ▸ In (One event))) =
+    rw is (record { outputs = refl; forks = omega arith; entries = omega arith; began = refl }) in
+    entry-handled plan (In (One event)) streams held state [] (write event ∷ []) steps steps out out refl history index
+    grew written (sym (append-nil out)) left
+
+-- the event that came is equal to another one
+pub moved-equal : (plan : StreamTrees) (shown event : Event) (streams : IndexedStreams) (state : CoreState)
+    (old : List Notice) (forks_before : ℕ) (new : List Notice) (forks_after : ℕ) → shown ≡ event →
+    Moved plan streams state (entered plan (In (One shown)) state) old forks_before new forks_after →
+    Moved plan streams state (entered plan (In (One event)) state) old forks_before new forks_after
+moved-equal plan shown event streams state old forks_before new forks_after same moved =
+    subst
+    (λ (e : Event). Moved plan streams state (entered plan (In (One e)) state) old forks_before new forks_after)
+    same moved
 
 -- two ways, one after the other
 pub moved-then : (plan : StreamTrees) (between streams : IndexedStreams) (a b c : CoreState) (out_a : List Notice)

@@ -114,6 +114,13 @@ pub visited-entry : (plan : StreamTrees) (x : Entry) (state : CoreState) (a b : 
     → b ≤ a + due_among (plan_effects plan (state.history ▸ x)) → Visited plan state (entered plan x state) a b
 visited-entry plan x state a b within = let first = visits-entered plan x state in omega (arith, first, within)
 
+-- the event that came is equal to another one
+pub visited-equal : (plan : StreamTrees) (shown event : Event) (state : CoreState) (a b : ℕ) → shown ≡ event
+    → Visited plan state (entered plan (In (One shown)) state) a b
+    → Visited plan state (entered plan (In (One event)) state) a b
+visited-equal plan shown event state a b same visited =
+    subst (λ (e : Event). Visited plan state (entered plan (In (One e)) state) a b) same visited
+
 pub visited-reap : (plan : StreamTrees) (state : CoreState) (a b : ℕ)
     → b ≤ a + 2 * expired_in (moment_of state.history) state.log → Visited plan state (with_reap state) a b
 visited-reap plan state a b within = let first = visits-reap plan state in omega (arith, first, within)

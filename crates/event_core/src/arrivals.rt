@@ -11,9 +11,11 @@ ghost use Rattle.event_core.specs.Core.{config_of, now_of, is_poisoned, state_by
 use crate::clock::Clock;
 use crate::streams::IndexedStreams;
 use ev_types::{Event, Events, Expiry, Memory, Notices};
+use packed_event::{PackedEvent, PackedRef};
 use pred_eval::Pred;
 use std::alloc::Global;
 use step_count::{Ledger, Steps};
+use stored_event::Stored;
 use stream_plan::ReadyPlan;
 
 /// The streams of a plan, the index that they write to, and a clock of seconds. Every `interval` seconds the events
@@ -120,6 +122,32 @@ impl Core {
         Ok(())
     }
 
+    /// Posts an event whose bytes lie elsewhere. If a stream sees it, it is unpacked into `spare`, and what is left
+    /// there is not specified; the index gets its bytes. The notices that the streams give are appended to `out`. After
+    /// `Memory` `out` begins with what it had.
+    #[inline]
+    pub fn post_packed<G: Ledger>(
+        &mut self,
+        alloc: Global,
+        event: &PackedRef<'_>,
+        spare: &mut Event,
+        out: &mut Notices,
+        steps: &mut Steps<G>,
+    ) -> Result<(), Memory>
+        ensures now { now_of self.new ≡ now_of self.old }
+        ensures receives { Receives (Post event.now ∷ []) self.old self.new
+            out.old out.new steps.old steps.new result }
+    {
+        if self.poisoned {
+            return Err(Memory);
+        }
+        self.poisoned = true;
+        self.streams
+            .packed_item(alloc, event, spare, self.clock.moment, out, steps)?;
+        self.poisoned = false;
+        Ok(())
+    }
+
     /// Appends copies of the live events that meet the predicate, in the order of the index: by host and then by
     /// service, absent before present. After `Memory` `out` begins with what it had.
     pub fn search<G: Ledger>(
@@ -162,7 +190,7 @@ impl Core {
         &'a self,
         alloc: Global,
         pred: &mut Pred,
-        found: &mut Vec<&'a Event>,
+        found: &mut Vec<&'a Stored<PackedEvent>>,
         steps: &mut Steps<G>,
     ) -> Result<(), Memory>
         ensures pred { pred.new ≡ pred.old }
@@ -192,7 +220,7 @@ impl Core {
         alloc: Global,
         pred: &mut Pred,
         limit: usize,
-        found: &mut Vec<&'a Event>,
+        found: &mut Vec<&'a Stored<PackedEvent>>,
         steps: &mut Steps<G>,
     ) -> Result<(), Memory>
         ensures pred { pred.new ≡ pred.old }

@@ -5,7 +5,7 @@ ghost use Rattle.live_index.specs.Index.{Represents};
 ghost use Rattle.stream_meaning.specs.Arrivals.{notices_among, writes_among};
 
 use ev_types::{Memory, Notices, Output, Outputs};
-use live_index::LiveIndex;
+use live_index::PackedIndex;
 use std::alloc::Global;
 use std::mem;
 
@@ -15,7 +15,7 @@ use std::mem;
 pub(crate) fn handle(
     alloc: Global,
     outputs: &mut Outputs,
-    index: &mut LiveIndex,
+    index: &mut PackedIndex,
     out: &mut Notices,
 ) -> Result<(), Memory>
     ensures index { OnOk result ((log : IndexLog) → Represents index.old log
@@ -40,7 +40,7 @@ pub(crate) fn handle(
 fn handle_each(
     alloc: Global,
     outputs: Vec<Output>,
-    index: &mut LiveIndex,
+    index: &mut PackedIndex,
     out: &mut Notices,
 ) -> Result<(), Memory>
     ensures index { OnOk result ((log : IndexLog) → Represents index.old log
@@ -55,7 +55,7 @@ fn handle_each(
 }
 
 /// Moves the event of a write into the index. The answer is whether the output is a write. A notice stays as it is.
-fn write_one(alloc: Global, output: &mut Output, index: &mut LiveIndex) -> Result<bool, Memory>
+fn write_one(alloc: Global, output: &mut Output, index: &mut PackedIndex) -> Result<bool, Memory>
     ensures written { IfOk result (λ is_write. is_write ≡ true → (log : IndexLog)
         → Represents index.old log
         → Represents index.new (log ++ writes_among (output.old ∷ []))) }
@@ -76,7 +76,7 @@ fn write_one(alloc: Global, output: &mut Output, index: &mut LiveIndex) -> Resul
 fn handle_one(
     alloc: Global,
     output: Output,
-    index: &mut LiveIndex,
+    index: &mut PackedIndex,
     out: &mut Notices,
 ) -> Result<(), Memory>
     ensures index { OnOk result ((log : IndexLog) → Represents index.old log

@@ -13,10 +13,12 @@ ghost use Rattle.event_core.specs.Streams.{plan_of, Holds, Moved, Visited};
 use crate::clock::Clock;
 use crate::outputs::handle;
 use ev_types::{Event, Events, KeepKeys, Memory, Notices, Outputs};
-use live_index::LiveIndex;
+use live_index::PackedIndex;
+use packed_event::{PackedEvent, PackedRef};
 use pred_eval::Pred;
 use std::alloc::Global;
 use step_count::{Ledger, Steps};
+use stored_event::Stored;
 use stream_plan::ReadyPlan;
 use stream_tree::Tree;
 
@@ -24,7 +26,7 @@ use stream_tree::Tree;
 #[derive(Drop)]
 pub(crate) struct IndexedStreams {
     tree: Tree,
-    index: LiveIndex,
+    index: PackedIndex,
     // The outputs of the tree. They are handled at once, so only the list's memory is kept from one call to the next.
     outputs: Outputs,
 }
@@ -43,7 +45,7 @@ impl IndexedStreams {
     {
         Ok(IndexedStreams {
             tree: Tree::fresh(alloc, plan, start)?,
-            index: LiveIndex::fresh(alloc),
+            index: PackedIndex::fresh(alloc),
             outputs: Outputs::fresh(alloc),
         })
     }
@@ -82,6 +84,82 @@ impl IndexedStreams {
             return Ok(());
         }
         self.index.put(alloc, event)?;
+        Ok(())
+    }
+
+    /// An event whose bytes lie elsewhere comes to the streams at the moment `now`, the one they are at. It is unpacked
+    /// into `spare` if a stream sees it. What is left in `spare` is not specified.
+    #[inline]
+    pub(crate) fn packed_item<G: Ledger>(
+        &mut self,
+        alloc: Global,
+        event: &PackedRef<'_>,
+        spare: &mut Event,
+        now: u64,
+        out: &mut Notices,
+        steps: &mut Steps<G>,
+    ) -> Result<(), Memory>
+        requires { now ≤ 2 ^ 40 }
+        ensures plan { plan_of self.new ≡ plan_of self.old }
+        ensures moved { OnOk result ((state : CoreState) → Holds self.old state →
+            moment_of state.history ≡ now
+            → Moved (plan_of self.old) self.new state
+            (entered (plan_of self.old) (In (One event.now)) state)
+            out.old steps.old.forks out.new steps.new.forks) }
+        ensures visited { (state : CoreState) → Holds self.old state →
+            moment_of state.history ≡ now
+            → Visited (plan_of self.old) state
+            (entered (plan_of self.old) (In (One event.now)) state)
+            steps.old.entries steps.new.entries }
+        ensures began { (state : CoreState) → Holds self.old state →
+            moment_of state.history ≡ now → steps.new.began ≡ steps.old.began }
+        ensures prefix { IsPrefix out.old out.new }
+    {
+        let is_write_due = self.tree.offer_unseen()?;
+        if is_write_due {
+            self.index.put_packed(alloc, event)?;
+            return Ok(());
+        }
+        self.seen_item(alloc, event, spare, now, out, steps)?;
+        Ok(())
+    }
+
+    /// An event whose bytes lie elsewhere is unpacked into `spare`, and comes to the streams from there. The index gets
+    /// its bytes.
+    fn seen_item<G: Ledger>(
+        &mut self,
+        alloc: Global,
+        event: &PackedRef<'_>,
+        spare: &mut Event,
+        now: u64,
+        out: &mut Notices,
+        steps: &mut Steps<G>,
+    ) -> Result<(), Memory>
+        requires { now ≤ 2 ^ 40 }
+        ensures plan { plan_of self.new ≡ plan_of self.old }
+        ensures moved { OnOk result ((state : CoreState) → Holds self.old state →
+            moment_of state.history ≡ now
+            → Moved (plan_of self.old) self.new state
+            (entered (plan_of self.old) (In (One event.now)) state)
+            out.old steps.old.forks out.new steps.new.forks) }
+        ensures visited { (state : CoreState) → Holds self.old state →
+            moment_of state.history ≡ now
+            → Visited (plan_of self.old) state
+            (entered (plan_of self.old) (In (One event.now)) state)
+            steps.old.entries steps.new.entries }
+        ensures began { (state : CoreState) → Holds self.old state →
+            moment_of state.history ≡ now → steps.new.began ≡ steps.old.began }
+        ensures prefix { IsPrefix out.old out.new }
+    {
+        event.unpack_into(alloc, spare)?;
+        let is_write_due = self
+            .tree
+            .offer(alloc, spare, now, &mut self.outputs, steps)?;
+        handle(alloc, &mut self.outputs, &mut self.index, out)?;
+        if !is_write_due {
+            return Ok(());
+        }
+        self.index.put_packed(alloc, event)?;
         Ok(())
     }
 
@@ -312,7 +390,7 @@ impl IndexedStreams {
         &'a self,
         alloc: Global,
         pred: &mut Pred,
-        found: &mut Vec<&'a Event>,
+        found: &mut Vec<&'a Stored<PackedEvent>>,
         steps: &mut Steps<G>,
     ) -> Result<(), Memory>
         ensures pred { pred.new ≡ pred.old }
@@ -338,7 +416,7 @@ impl IndexedStreams {
         alloc: Global,
         pred: &mut Pred,
         limit: usize,
-        found: &mut Vec<&'a Event>,
+        found: &mut Vec<&'a Stored<PackedEvent>>,
         steps: &mut Steps<G>,
     ) -> Result<(), Memory>
         ensures pred { pred.new ≡ pred.old }

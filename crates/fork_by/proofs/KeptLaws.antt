@@ -112,7 +112,8 @@ pub number_within : (entries : List (List Value × ℕ)) (index number : ℕ) �
 number_within entries index number h =
     let e = entry_at entries index number h in slice_get_within entries index (e.0, number) e.1
 
-keys_apart : (entries : List (List Value × ℕ)) (i j : ℕ) (a b : List Value × ℕ) → IsDistinct same_key (keys_of entries)
+pub keys_apart : (entries : List (List Value × ℕ)) (i j : ℕ) (a b : List Value × ℕ)
+    → IsDistinct same_key (keys_of entries)
     → slice_get entries i ≡ Some a → slice_get entries j ≡ Some b
     → i ≢ j → same_key a.0 b.0 ≡ false
 keys_apart entries i j a b distinct at_i at_j apart =
@@ -143,7 +144,7 @@ keys_apart entries i j a b distinct at_i at_j apart =
     differ false same other = refl
 
 -- ---- look-ups
-lookup_index : (test : List Value → Bool) (es : List (List Value × ℕ)) (v : ℕ) → lookup test es ≡ Some v
+pub lookup_index : (test : List Value → Bool) (es : List (List Value × ℕ)) (v : ℕ) → lookup test es ≡ Some v
     → (i : ℕ) × (key : List Value) × (slice_get es i ≡ Some (key, v)) × (test key ≡ true)
 lookup_index test [] v h = absurd (cc)
 lookup_index test (e ∷ es) v h =
@@ -156,7 +157,7 @@ lookup_index test (e ∷ es) v h =
           (suc rest.0, rest.1, rest.2, rest.3))
     ]
 
-lookup_some : (test : List Value → Bool) (es : List (List Value × ℕ)) (i v : ℕ) (key : List Value)
+pub lookup_some : (test : List Value → Bool) (es : List (List Value × ℕ)) (i v : ℕ) (key : List Value)
     → slice_get es i ≡ Some (key, v) → test key ≡ true → lookup test es ≡ None → ⊥
 lookup_some test [] i v key h passes none = absurd (cc)
 lookup_some test (e ∷ es) zero v key h passes none =

@@ -4,6 +4,7 @@ pub mod DroppedLaws
 pub mod DueLaws
 pub mod KeptForkLaws
 pub mod KeptLaws
+pub mod KnownLaws
 pub mod LabelLaws
 pub mod Laws
 pub mod ListLaws

@@ -1,12 +1,13 @@
 //! What is known of the forks of a table, as one small value.
-ghost use Rattle.std.specs.Prelude.{◌≡◌, ◌+◌, ◌≤◌, ◌<◌, ◌++◌, ◌↔◌, [], length, unwrap_or, None, IsSome, IsTrue, IsOk, IfOk, IfSome, IfNone, OnOk, OnErr};
+ghost use Rattle.std.specs.Prelude.{◌≡◌, ◌+◌, ◌≤◌, ◌<◌, ◌++◌, ◌↔◌, [], length, unwrap_or, None, Some, IsSome, IsTrue, IsOk, IfOk, IfSome, IfNone, OnOk, OnErr};
 ghost use Rattle.std.specs.List.{All};
+ghost use Rattle.ev_types.specs.Key.{event_key};
 ghost use Rattle.list_laws.specs.Prefix.{IsPrefix};
 ghost use Rattle.tick_schedule.specs.Queue.{IsLeast};
 ghost use Rattle.fork_by.specs.Labels.{IsLive, number_of, index_at, last_moment_at, dues_set, due_numbers, dues_cleared, due_moments, AreSound, Adds, Touches, Drops, labels_in};
 
 use crate::register::Register;
-use ev_types::Key;
+use ev_types::{Event, Fields, Key};
 use list_laws::{Ids, Memory};
 use std::alloc::Global;
 use std::marker::Model;
@@ -43,6 +44,26 @@ impl Labels {
         match &self.register {
             Some(register) => register.find(key),
             None => None,
+        }
+    }
+
+    /// The number of the key that is what the event holds in the fields, if it is found without the key.
+    pub(crate) fn known(&self, event: &Event, fields: &Fields) -> Option<usize>
+        ensures { IfSome result (λ number.
+            number_of (event_key event.now fields.now) self.now ≡ Some number) }
+    {
+        match &self.register {
+            Some(register) => register.known(event, fields),
+            None => None,
+        }
+    }
+
+    /// Notes the key of the number, for [`Labels::known`]. If memory runs out, it is not noted.
+    pub(crate) fn note(&mut self, alloc: Global, number: usize)
+        ensures { self.new ≡ self.old }
+    {
+        if let Some(register) = &mut self.register {
+            register.note(alloc, number);
         }
     }
 
@@ -86,10 +107,10 @@ impl Labels {
         ensures sound { AreSound self.new }
     {
         if let Some(register) = &mut self.register {
-            return register.add(alloc, key, now);
+            return add_noted(alloc, register, key, now);
         }
         let mut register = Register::fresh(alloc)?;
-        let number = register.add(alloc, key, now)?;
+        let number = add_noted(alloc, &mut register, key, now)?;
         self.register = Some(Box::new(alloc, register)?);
         Ok(number)
     }
@@ -183,4 +204,16 @@ impl Labels {
             None => None,
         }
     }
+}
+
+/// Adds the label of a fork, notes its key, and gives its number.
+fn add_noted(alloc: Global, register: &mut Register, key: Key, now: u64) -> Result<usize, Memory>
+    requires { number_of key register.old ≡ None }
+    ensures ok { IfOk result (λ number. Adds register.old register.new key number now) }
+    ensures err { OnErr result (register.new ≡ register.old) }
+    ensures sound { AreSound register.new }
+{
+    let number = register.add(alloc, key, now)?;
+    register.note(alloc, number);
+    Ok(number)
 }

@@ -3,7 +3,7 @@ ghost use Rattle.std.specs.Prelude.{◌≡◌, ℕ, ◌+◌, ◌≤◌, ◌<◌,
 ghost use Rattle.std.specs.List.{All, IsDistinct};
 ghost use Rattle.std.specs.Map.{keys_of};
 ghost use Rattle.list_laws.specs.Prefix.{IsPrefix};
-ghost use Rattle.ev_types.specs.Key.{same_key};
+ghost use Rattle.ev_types.specs.Key.{same_key, event_key};
 ghost use Rattle.linked_slots.specs.IdLists.{list_at, times, append_to, first_of, last_of};
 ghost use Rattle.tick_schedule.specs.Queue.{IsLeast};
 ghost use Rattle.fork_by.specs.Labels.{IsLive, IsLatest, number_of, index_at, last_moment_at, dues_set, due_numbers, dues_cleared, due_moments, AreSound, Adds, Touches, Drops, dropped};
@@ -16,9 +16,11 @@ use crate::renew::next_order;
 use crate::slots::{
     Change, Slot, clear_slot, index_of, moment_of, reach, set_index, set_moment, set_slot, slot_of,
 };
-use ev_types::Key;
+use crate::unmade::{hash_of_fields, hash_of_key, is_key_of};
+use ev_types::{Event, Fields, Key};
 use http_server::Log;
 use indexmap::IndexMap;
+use key_hints::Hints;
 use linked_slots::Lists;
 use list_laws::{Ids, Memory};
 use std::alloc::Global;
@@ -37,6 +39,8 @@ pub(crate) struct Register {
     due: DueQueue,
     // The order of the next fork that is added.
     next: u64,
+    // An event's key is looked for here before it is made.
+    hints: Hints,
     // A log is a list that only proofs see, and has no bytes.
     changes: Log<Change, ()>,
 }
@@ -67,6 +71,7 @@ impl Register {
             moments,
             due: DueQueue::fresh(alloc),
             next: 0,
+            hints: Hints::fresh(alloc),
             changes: Log::new(),
         })
     }
@@ -76,6 +81,44 @@ impl Register {
         ensures { result ≡ number_of key.now self.now }
     {
         self.numbers.get(key).copied()
+    }
+
+    /// The number of the key that is what the event holds in the fields, if it is at one of the two indices that were
+    /// noted last for its hash.
+    pub(crate) fn known(&self, event: &Event, fields: &Fields) -> Option<usize>
+        ensures { IfSome result (λ number.
+            number_of (event_key event.now fields.now) self.now ≡ Some number) }
+    {
+        let (last, earlier) = self.hints.pair(hash_of_fields(event, fields))?;
+        match self.known_at(last, event, fields) {
+            Some(number) => Some(number),
+            None => self.known_at(earlier, event, fields),
+        }
+    }
+
+    /// The number of the key at the index, if that key is what the event holds in the fields.
+    fn known_at(&self, index: usize, event: &Event, fields: &Fields) -> Option<usize>
+        ensures { IfSome result (λ number.
+            number_of (event_key event.now fields.now) self.now ≡ Some number) }
+    {
+        let (key, number) = self.numbers.get_index(index)?;
+        if is_key_of(key, event, fields) {
+            Some(*number)
+        } else {
+            None
+        }
+    }
+
+    /// Notes where the key of the number is, for [`Register::known`]. If memory runs out, it is not noted.
+    pub(crate) fn note(&mut self, alloc: Global, number: usize)
+        ensures { self.new ≡ self.old }
+    {
+        let index = index_of(&self.slots, number);
+        let Some((key, _)) = self.numbers.get_index(index) else {
+            return;
+        };
+        self.hints.reserve(alloc, self.numbers.len());
+        self.hints.note(hash_of_key(key), index);
     }
 
     /// Where the fork of the number is, and 0 where it has none.

@@ -1,13 +1,14 @@
 //! Forks by key.
-ghost use Rattle.std.specs.Prelude.{◌≡◌, ℕ, ◌+◌, ◌<◌, ◌≤◌, ◌++◌, ◌↔◌, [], ◌∷◌, length, map, None, slice_index_or, IsTrue, IfOk, IfSome, OnOk, OnErr, IsOk};
+ghost use Rattle.std.specs.Prelude.{◌≡◌, ℕ, ◌+◌, ◌<◌, ◌≤◌, ◌++◌, ◌↔◌, [], ◌∷◌, length, map, None, Some, slice_index_or, IsTrue, IfOk, IfSome, OnOk, OnErr, IsOk};
 ghost use Rattle.std.specs.Borrow.{sem};
+ghost use Rattle.ev_types.specs.Key.{event_key};
 ghost use Rattle.list_laws.specs.Prefix.{IsPrefix};
 ghost use Rattle.tick_schedule.specs.Queue.{IsLeast};
 ghost use Rattle.fork_by.specs.Labels.{IsLatest, IsLive, number_of, label_at, due_numbers, due_moments};
 ghost use Rattle.fork_by.specs.Table.{fork_labels, kept_forks, kept_number, kept_at, due_kept, kept_dues, place_of, HasFork, IsTable, LendsFork, fork_touched, fork_dated, fork_cleared, later_than, TakesFork};
 
 use crate::labels::Labels;
-use ev_types::{Key, Memory};
+use ev_types::{Event, Fields, Key, Memory};
 use list_laws::Ids;
 use std::alloc::Global;
 use step_count::{Ledger, Steps};
@@ -50,6 +51,27 @@ impl<F: Drop> ForkTable<F> {
         ensures has { IsTable self.now → IfSome result (λ number. HasFork number self.now) }
     {
         self.labels.find(key)
+    }
+
+    /// The number of the fork whose key is what the event holds in the fields, if that is found without making the key.
+    /// It finds the forks that were added or noted last. It takes no memory.
+    pub fn known(&self, event: &Event, fields: &Fields) -> Option<usize>
+        ensures label { IfSome result (λ number.
+            number_of (event_key event.now fields.now) (fork_labels self.now) ≡ Some number) }
+        ensures live { IfSome result (λ number. IsLive number (fork_labels self.now)) }
+        ensures found { IsTable self.now → IfSome result (λ number.
+            kept_number (event_key event.now fields.now) (kept_forks self.now) ≡ Some number) }
+        ensures has { IsTable self.now → IfSome result (λ number. HasFork number self.now) }
+    {
+        self.labels.known(event, fields)
+    }
+
+    /// Notes the fork of the number, so that [`ForkTable::known`] finds it until others of like hashes are noted. If
+    /// memory runs out, it is not noted.
+    pub fn note(&mut self, alloc: Global, number: usize)
+        ensures { self.new ≡ self.old }
+    {
+        self.labels.note(alloc, number);
     }
 
     /// Whether the number has a fork.

@@ -5,19 +5,19 @@ ghost use Rattle.hub_link.specs.Answering.{AnswersFirst, AnswersFrames, AreTaken
 use crate::unsent::Unsent;
 use ev_types::{Memory, Notices};
 use frame_link::{FirstFrame, first_frame};
+use msg_replies::Spare;
 use msg_replies::event_core::Core;
 use pred_eval::Patterns;
-use riemann_msg::SpentEvents;
 use std::alloc::Global;
 use step_count::{Ledger, Steps};
 
 /// Answers the messages of the whole frames that the bytes begin with, in order. The answer is how many bytes these
-/// frames have. The messages are read into the memory of `spent`.
+/// frames have. `spare` is memory that messages are read into.
 pub(crate) fn answer_frames<P: Patterns, G: Ledger>(
     alloc: Global,
     bytes: &[u8],
     unsent: &mut Unsent,
-    spent: &mut SpentEvents,
+    spare: &mut Spare,
     core: &mut Core,
     patterns: &mut P,
     notices: &mut Notices,
@@ -31,7 +31,7 @@ pub(crate) fn answer_frames<P: Patterns, G: Ledger>(
     let mut taken = 0;
     'frames: loop {
         let rest = &bytes[taken..];
-        match answer_first(alloc, rest, unsent, spent, core, patterns, notices, steps)? {
+        match answer_first(alloc, rest, unsent, spare, core, patterns, notices, steps)? {
             Some(size) => taken += size,
             None => return Ok(taken),
         }
@@ -43,7 +43,7 @@ fn answer_first<P: Patterns, G: Ledger>(
     alloc: Global,
     bytes: &[u8],
     unsent: &mut Unsent,
-    spent: &mut SpentEvents,
+    spare: &mut Spare,
     core: &mut Core,
     patterns: &mut P,
     notices: &mut Notices,
@@ -55,7 +55,7 @@ fn answer_first<P: Patterns, G: Ledger>(
 {
     match first_frame(bytes) {
         FirstFrame::Whole(body) => {
-            unsent.append_reply(alloc, body, spent, core, patterns, notices, steps)?;
+            unsent.append_reply(alloc, body, spare, core, patterns, notices, steps)?;
             Ok(Some(4 + body.len()))
         }
         FirstFrame::NotYet => Ok(None),

@@ -16,11 +16,11 @@ use crate::unsent::Unsent;
 use ev_types::{Memory, Notices};
 use frame_link::{FirstFrame, FrameBuffer, first_frame};
 use framing::BODY_LIMIT;
+use msg_replies::Spare;
 use msg_replies::event_core::Core;
 use msg_replies::hub_meaning::Stage;
 use ports::{Links, SendAnswer, Want};
 use pred_eval::Patterns;
-use riemann_msg::SpentEvents;
 use std::alloc::Global;
 use step_count::{Ledger, Steps};
 
@@ -59,14 +59,14 @@ impl HubLink {
     }
 
     /// Reads a piece that came, if the link is open: the events of each whole frame are posted and its reply is
-    /// appended, in order. A length over the limit is answered too, and then no more is read. Each message is read into
-    /// the memory of `spent`, and leaves its own events there, if they are at most 128. After `Memory` nothing is known
-    /// of the link.
+    /// appended, in order. A length over the limit is answered too, and then no more is read. Messages are read into the
+    /// memory of `spare`, unless their events are posted from where they lie. After `Memory` nothing is known of the
+    /// link.
     pub fn hear<P: Patterns, G: Ledger>(
         &mut self,
         alloc: Global,
         piece: &[u8],
-        spent: &mut SpentEvents,
+        spare: &mut Spare,
         core: &mut Core,
         patterns: &mut P,
         notices: &mut Notices,
@@ -80,7 +80,7 @@ impl HubLink {
         if !self.is_open() {
             return Ok(());
         }
-        self.read(alloc, piece, spent, core, patterns, notices, steps)?;
+        self.read(alloc, piece, spare, core, patterns, notices, steps)?;
         self.cut_off(alloc)
     }
 
@@ -89,7 +89,7 @@ impl HubLink {
         &mut self,
         alloc: Global,
         piece: &[u8],
-        spent: &mut SpentEvents,
+        spare: &mut Spare,
         core: &mut Core,
         patterns: &mut P,
         notices: &mut Notices,
@@ -102,9 +102,9 @@ impl HubLink {
         ensures keeps { OnOk result (KeepsRest piece.now self.old self.new) }
     {
         if self.input.is_empty() {
-            self.read_alone(alloc, piece, spent, core, patterns, notices, steps)
+            self.read_alone(alloc, piece, spare, core, patterns, notices, steps)
         } else {
-            self.read_after(alloc, piece, spent, core, patterns, notices, steps)
+            self.read_after(alloc, piece, spare, core, patterns, notices, steps)
         }
     }
 
@@ -113,7 +113,7 @@ impl HubLink {
         &mut self,
         alloc: Global,
         piece: &[u8],
-        spent: &mut SpentEvents,
+        spare: &mut Spare,
         core: &mut Core,
         patterns: &mut P,
         notices: &mut Notices,
@@ -127,7 +127,7 @@ impl HubLink {
         ensures keeps { OnOk result (KeepsRest piece.now self.old self.new) }
     {
         let unsent = &mut self.unsent;
-        let taken = answer_frames(alloc, piece, unsent, spent, core, patterns, notices, steps)?;
+        let taken = answer_frames(alloc, piece, unsent, spare, core, patterns, notices, steps)?;
         self.input.push(alloc, &piece[taken..])
     }
 
@@ -138,7 +138,7 @@ impl HubLink {
         &mut self,
         alloc: Global,
         piece: &[u8],
-        spent: &mut SpentEvents,
+        spare: &mut Spare,
         core: &mut Core,
         patterns: &mut P,
         notices: &mut Notices,
@@ -152,11 +152,11 @@ impl HubLink {
     {
         let missing = missing_bytes(self.input.as_slice());
         let (head, rest) = piece.split_at(missing.min(piece.len()));
-        self.read_joined(alloc, head, spent, core, patterns, notices, steps)?;
+        self.read_joined(alloc, head, spare, core, patterns, notices, steps)?;
         if self.input.is_empty() {
-            self.read_alone(alloc, rest, spent, core, patterns, notices, steps)
+            self.read_alone(alloc, rest, spare, core, patterns, notices, steps)
         } else {
-            self.read_joined(alloc, rest, spent, core, patterns, notices, steps)
+            self.read_joined(alloc, rest, spare, core, patterns, notices, steps)
         }
     }
 
@@ -165,7 +165,7 @@ impl HubLink {
         &mut self,
         alloc: Global,
         piece: &[u8],
-        spent: &mut SpentEvents,
+        spare: &mut Spare,
         core: &mut Core,
         patterns: &mut P,
         notices: &mut Notices,
@@ -180,7 +180,7 @@ impl HubLink {
         self.input.push(alloc, piece)?;
         let bytes = self.input.as_slice();
         let unsent = &mut self.unsent;
-        let taken = answer_frames(alloc, bytes, unsent, spent, core, patterns, notices, steps)?;
+        let taken = answer_frames(alloc, bytes, unsent, spare, core, patterns, notices, steps)?;
         self.input.advance(taken);
         Ok(())
     }

@@ -5,9 +5,8 @@ ghost use Rattle.msg_replies.specs.Arriving.{reported};
 
 use ev_types::{Blob, Memory, Notices};
 use msg_replies::event_core::Core;
-use msg_replies::{answer, refuse_length};
+use msg_replies::{Spare, answer, refuse_length};
 use pred_eval::Patterns;
-use riemann_msg::SpentEvents;
 use std::alloc::Global;
 use std::marker::Model;
 use std::mem;
@@ -68,13 +67,13 @@ impl Unsent {
         }
     }
 
-    /// Posts the events of a message, and appends the reply to it. The message is read into the memory of `spent`.
+    /// Posts the events of a message, and appends the reply to it. `spare` is memory that it is read into.
     /// After `Memory` nothing is known of the replies.
     pub(crate) fn append_reply<P: Patterns, G: Ledger>(
         &mut self,
         alloc: Global,
         body: &[u8],
-        spent: &mut SpentEvents,
+        spare: &mut Spare,
         core: &mut Core,
         patterns: &mut P,
         notices: &mut Notices,
@@ -89,7 +88,7 @@ impl Unsent {
             alloc,
             body,
             unsent,
-            spent,
+            spare,
             core,
             patterns,
             &mut self.later,

@@ -39,9 +39,6 @@ on_err (Err error) fact = fact
 no_lines : (made : List Notice) → GotLines no_sink made no_sink
 no_lines made = record { text = refl; puts = refl }
 
-no_first_lines : (made : List Notice) → GotFirstLines no_sink made no_sink
-no_first_lines made = record { whole = 0; within = omega arith; part = []; next = (_, refl); text = refl; puts = refl }
-
 -- the same turn, without its lines
 abbrev muted : (turn : Turn) (piece : List ℕ) (hub hub' : Hub) (patterns patterns' : PatternsReport)
     (forks forks' : ℕ)
@@ -57,7 +54,7 @@ muted turn piece hub hub' patterns patterns' forks forks' sink sink' result conf
   notices = does.notices;
   lines = on_ok result (no_lines does.made);
   prefix = on_err result (0, refl);
-  first_lines = on_err result (no_first_lines does.made);
+  first_lines = on_err result (first_nothing no_sink does.made);
   some = does.some;
   follows = does.follows;
   counted = does.counted;

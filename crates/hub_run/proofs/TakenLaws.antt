@@ -90,6 +90,7 @@ pub lines_into : (a b c : SinkReport) (put made : List Notice) → GotLines a pu
 lines_into a b c put made one two = record {
   whole = two.whole;
   within = two.within;
+  missing = two.missing;
   part = two.part;
   next = two.next;
   text =

@@ -1,5 +1,5 @@
 -- What a run of a server comes to.
-use Rattle.std.specs.Prelude.{◌≡◌, ◌≢◌, ℕ, ◌+◌, ◌≤◌, ◌⊎◌, List, [], ◌∷◌, ◌++◌, length, take, drop, Result, Ok, Err}
+use Rattle.std.specs.Prelude.{◌≡◌, ◌≢◌, ℕ, ◌+◌, ◌<◌, ◌≤◌, ◌⊎◌, List, [], ◌∷◌, ◌++◌, length, take, drop, Result, Ok, Err}
 use Rattle.std.specs.List.{AllByRecursion}
 use Rattle.conn_core.specs.Hub.{Follows}
 use Rattle.conn_core.specs.Turning.{CountedPuts, GotLines}
@@ -70,13 +70,15 @@ pub record StopsInLines (old : SinkReport) (put made : List Notice) (new : SinkR
   -- how many of the lines of `made` it got whole
   pub whole : ℕ
   pub within : whole ≤ length made
+  -- where there are such lines, not all were put
+  pub missing : made ≢ [] → whole < length made
   pub part : List ℕ
   pub next : IsPrefix part (lines_of (take 1 (drop whole made)))
   pub text : Got old.text (lines_of (put ++ take whole made) ++ part) new.text
   pub puts : CountedPuts old.puts (length put + whole) new.puts
 
 -- Whole turns, and then one that was not finished for this fault. The lines of the whole turns were written, and the
--- first of those of the last. The sink failed only if the last turn had a line.
+-- first of those of the last, but not all of them. The sink failed only if the last turn had a line.
 pub record StopsIn (config : CoreConfig) (fault : RunFault) (old new : RunReport) (turns : List TakenTurn)
     (last : TakenTurn) : Type 0 where
   pub legal : IsLegal config (steps_of (turns ++ last ∷ []))

@@ -1,41 +1,16 @@
 -- How many bytes events add to a reply.
-use Rattle.std.proofs.Common.{◌≡◌, ℕ, ◌+◌, ◌<◌, ◌≤◌, Bool, true, false, cond, List, [], ◌∷◌, ◌++◌, filter, take, length}
-use Rattle.std.proofs.Common.{get_or, Option, Some, IfSome, refl, sym, ap, ◌∙◌, subst, arith, length-append}
+use Rattle.std.proofs.Common.{◌≡◌, ℕ, ◌+◌, ◌<◌, Bool, false, cond, List, [], ◌∷◌, filter, take, length}
+use Rattle.std.proofs.Common.{get_or, Option, Some, IfSome, refl, sym, ap, ◌∙◌, subst, arith}
 use Rattle.std.specs.Prelude.{Result, Ok, Err, IfOk}
-use Rattle.std.proofs.lemmas.List.{map-append}
 use Rattle.ev_types.specs.declared.event.Event.{Event}
-use Rattle.riemann_msg.specs.Spelling.{field, repeated, spelled, event_content}
-use Rattle.riemann_msg.proofs.Lengths.{found_length, flag_length}
-use Rattle.riemann_msg.proofs.Spelled.{spelled-append}
 use Rattle.key_map.specs.Keys.{Numbers}
 use Rattle.pred_eval.specs.Tree.{Tree, Always}
 use Rattle.pred_eval.specs.Truth.{holds}
+use Rattle.stored_event.proofs.ReplyLengths.{both_len, empty_len}
 use Rattle.live_index.specs.Index.{Index, reply_len}
 use Rattle.live_index.specs.Slots.{IsStored, events_at, events_in, events_unless}
 use Rattle.live_index.proofs.CopyLaws.{found-more}
 use Rattle.live_index.proofs.SlotsLaws.{not_poisoned}
-
-abbrev added : List Event → ℕ
-added events = length (spelled (repeated 6 event_content events))
-
-added-append : (es fs : List Event) → added (es ++ fs) ≡ added es + added fs
-added-append es fs =
-    ap (λ values. length (spelled values)) (map-append (λ event. field 6 (event_content event)) es fs)
-    ∙ ap length (spelled-append (repeated 6 event_content es) (repeated 6 event_content fs))
-    ∙ length-append (spelled (repeated 6 event_content es)) (spelled (repeated 6 event_content fs))
-
-reply-is : (events : List Event) → reply_len events ≡ 2 + added events
-reply-is events = found_length events ∙ ap (λ n. n + added events) (flag_length true)
-
-pub empty_len : reply_len [] ≡ 2
-empty_len = reply-is []
-
-pub some_len : (events : List Event) → 2 ≤ reply_len events
-some_len events = omega (arith, reply-is events)
-
--- two lists of events, one after the other
-pub both_len : (es fs : List Event) → reply_len (es ++ fs) + 2 ≡ reply_len es + reply_len fs
-both_len es fs = omega (arith, reply-is (es ++ fs), reply-is es, reply-is fs, added-append es fs)
 
 -- an event that does not pass a test
 pub not_met : (met : Bool) (event : Event) → met ≡ false → 2 ≡ reply_len (cond met (event ∷ []) [])

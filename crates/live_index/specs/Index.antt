@@ -1,5 +1,5 @@
 -- What contracts see of an index, and the log that it represents.
-use Rattle.std.specs.Prelude.{◌≡◌, ◌&&◌, ℕ, Bool, false, List, filter, length, map, Option, None, Some}
+use Rattle.std.specs.Prelude.{◌≡◌, ◌&&◌, ℕ, Bool, false, List, filter, map, Option, None, Some}
 use denote.Ref.{Bor}
 use Rattle.std.specs.List.{find}
 use Rattle.std.specs.Ordering.{is_eq}
@@ -7,12 +7,11 @@ use Rattle.ev_types.specs.declared.event.Event.{Event}
 use Rattle.ev_types.specs.declared.value.Value.{Value}
 use Rattle.ev_types.specs.Field.{text_value}
 use Rattle.ev_types.specs.Value.{same_value}
-use Rattle.riemann_msg.specs.Reply.{found}
-use Rattle.riemann_msg.specs.Spelling.{spelling}
 use Rattle.pred_eval.specs.Tree.{Tree}
 use Rattle.pred_eval.specs.Host.{asked_host}
 use Rattle.index_log.specs.Live.{IndexLog, live_events}
 use Rattle.index_log.specs.IndexKey.{text_cmp}
+pub use Rattle.stored_event.specs.Stored.{reply_len}
 
 -- the live events in the order of the index, and whether a change ran out of memory, after which nothing is
 -- known of them
@@ -49,7 +48,3 @@ visited rule events = of_value (asked_host rule) events
 -- events that are lent from where they lie
 abbrev pub events_lent : List (Bor Event) → List Event
 events_lent = map (λ event. event.now)
-
--- how many bytes a reply has in which these events are found
-abbrev pub reply_len : List Event → ℕ
-reply_len events = length (spelling (found events))

@@ -1,7 +1,7 @@
 -- How an index keeps its events: the numbers of their keys in order, the events under these numbers, and the moments at
 -- which they expire.
 use Rattle.std.specs.Prelude.{◌≡◌, ℕ, ◌≤◌, ◌^◌, Bool, false, nat_le, eqb, List, [], ◌∷◌, map, length, Option, None}
-use Rattle.std.specs.Prelude.{Some, if◌then◌else◌}
+use Rattle.std.specs.Prelude.{Some, if◌then◌else◌, ℤ, ◌-ℤ◌, int_lt, pos, unwrap_or}
 use Rattle.std.specs.Option.{option_map}
 use Rattle.std.specs.Map.{values_of, lookup}
 use Rattle.std.specs.List.{All, list_any}
@@ -10,6 +10,7 @@ use Rattle.index_log.specs.IndexKey.{index_key_cmp, text_cmp}
 use Rattle.std.specs.BTreeMap.{is_at}
 use Rattle.ev_types.specs.declared.event.Event.{Event}
 use Rattle.ev_types.specs.Expiry.{ends_key, is_late}
+use Rattle.ev_types.specs.Limits.{default_ttl}
 use Rattle.ev_types.specs.declared.value.Value.{Value}
 use Rattle.ev_types.specs.declared.value.Value.TheVariants.{Nil, Number, Text}
 use Rattle.key_map.specs.Keys.{IndexKey, key_cmp, Numbers, number_at, of_host, IsRising}
@@ -55,6 +56,10 @@ pub record IsLinked (numbers : Numbers) (table : List (Option Event)) : Type 0 w
 abbrev pub is_by : ℕ → Option ℕ → Bool
 is_by now None = false
 is_by now (Some moment) = nat_le moment now
+
+-- an event with this time and this ttl, if it has one, is late
+abbrev pub is_past : ℕ → ℤ → Option ℕ → Bool
+is_past now time ttl = int_lt (pos (unwrap_or ttl default_ttl)) (pos now -ℤ time)
 
 abbrev pub is_late_in : ℕ → Option Event → Bool
 is_late_in now None = false

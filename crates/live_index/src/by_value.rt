@@ -4,12 +4,13 @@ ghost use Rattle.std.specs.Prelude.{◌≡◌, false, [], ◌∷◌, ◌++◌, I
 ghost use Rattle.index_log.specs.Live.{IndexLog, Write};
 ghost use Rattle.live_index.specs.Index.{Represents};
 
-use crate::LiveIndex;
+use crate::EventIndex;
 use ev_types::{Event, Memory};
 use std::alloc::Global;
+use stored_event::EventForm;
 
-impl LiveIndex {
-    /// Writes as [`LiveIndex::put`] does, but takes the event by value.
+impl<P: EventForm> EventIndex<P> {
+    /// Writes as [`EventIndex::put`] does, but takes the event by value.
     pub fn write(&mut self, alloc: Global, mut event: Event) -> Result<(), Memory>
         ensures ok { OnOk result ((log : IndexLog) → Represents self.old log →
             Represents self.new (log ++ Write event ∷ [])) }

@@ -7,25 +7,35 @@ ghost use Rattle.live_index.specs.Index.{Represents, event_at, events_lent, repl
 ghost use Rattle.pred_eval.specs.Tree.{Always};
 ghost use Rattle.pred_eval.specs.Truth.{holds};
 
+mod packed;
+
 use crate::slots::Slots;
 use ev_types::{Event, Events, Memory, Text};
+use packed_event::PackedEvent;
 use pred_eval::Pred;
 use std::alloc::Global;
 use std::marker::Model;
 use step_count::{Ledger, Steps};
+use stored_event::{EventForm, MeasuredEvent, Stored};
 
 /// An index of events, one for each host and service. Contracts see its live events, by host and then by service,
 /// absent before present, and whether a change ran out of memory: then it is poisoned, and each later call
 /// that can answer `Memory` does.
 #[derive(Drop)]
-pub struct LiveIndex {
-    slots: Slots,
+pub struct EventIndex<P: EventForm> {
+    slots: Slots<P>,
     poisoned: bool,
     // How many bytes a reply has with all live events, if that was asked for since the last change.
     all_len: Option<usize>,
 }
 
-impl Model for LiveIndex {
+/// An index in which each event owns its parts.
+pub type LiveIndex = EventIndex<MeasuredEvent>;
+
+/// An index in which an event owns its parts, or is kept as its bytes.
+pub type PackedIndex = EventIndex<PackedEvent>;
+
+impl<P: EventForm> Model for EventIndex<P> {
     ghost use Rattle.std.specs.Prelude.{◌≡◌, false, IfSome};
     ghost use Rattle.live_index.specs.Index.{Index, reply_len};
     ghost use Rattle.live_index.specs.Slots.{IsStored, events_unless};
@@ -43,14 +53,12 @@ impl Model for LiveIndex {
         (events_unless index.poisoned index.slots.numbers index.slots.events.values)) };
 }
 
-impl LiveIndex {
-    ghost use Rattle.live_index.specs.Lending.{StaysTheSame};
-
+impl<P: EventForm> EventIndex<P> {
     /// An index in which nothing was written. It takes no memory.
-    pub fn fresh(alloc: Global) -> LiveIndex
+    pub fn fresh(alloc: Global) -> EventIndex<P>
         ensures { Represents result [] }
     {
-        LiveIndex {
+        EventIndex {
             slots: Slots::fresh(alloc),
             poisoned: false,
             all_len: None,
@@ -143,13 +151,13 @@ impl LiveIndex {
     }
 
     /// Appends the live events that meet the predicate, where they lie, in the order of the index. It looks at the
-    /// events that [`LiveIndex::search`] looks at, and counts as many entries. After `Memory` `found` begins with what
+    /// events that [`EventIndex::search`] looks at, and counts as many entries. After `Memory` `found` begins with what
     /// it had.
     pub fn find<'a, G: Ledger>(
         &'a self,
         alloc: Global,
         pred: &mut Pred,
-        found: &mut Vec<&'a Event>,
+        found: &mut Vec<&'a Stored<P>>,
         steps: &mut Steps<G>,
     ) -> Result<(), Memory>
         ensures pred { pred.new ≡ pred.old }
@@ -174,14 +182,14 @@ impl LiveIndex {
     }
 
     /// Appends the first `limit` live events that meet the predicate, where they lie, in the order of the index. It
-    /// stops at the last of them, and counts no more entries than [`LiveIndex::find`]. After `Memory` `found` begins
+    /// stops at the last of them, and counts no more entries than [`EventIndex::find`]. After `Memory` `found` begins
     /// with what it had.
     pub fn find_first<'a, G: Ledger>(
         &'a self,
         alloc: Global,
         pred: &mut Pred,
         limit: usize,
-        found: &mut Vec<&'a Event>,
+        found: &mut Vec<&'a Stored<P>>,
         steps: &mut Steps<G>,
     ) -> Result<(), Memory>
         ensures pred { pred.new ≡ pred.old }
@@ -214,7 +222,7 @@ impl LiveIndex {
         self.slots.prepare(alloc, pred)
     }
 
-    /// How many bytes a reply has with the live events that meet the predicate, as those that [`LiveIndex::find`]
+    /// How many bytes a reply has with the live events that meet the predicate, as those that [`EventIndex::find`]
     /// lends. It looks at as many events, and counts as many entries. What it learns of each event is kept until that
     /// changes. `Memory`: also where the bytes are more than a `usize` can count.
     pub fn found_len<G: Ledger>(
@@ -242,7 +250,7 @@ impl LiveIndex {
         self.slots.found_len(alloc, pred, steps)
     }
 
-    /// What [`LiveIndex::found_len`] gives for the predicate that every event meets. It counts no more entries.
+    /// What [`EventIndex::found_len`] gives for the predicate that every event meets. It counts no more entries.
     pub fn all_len<G: Ledger>(
         &mut self,
         alloc: Global,
@@ -273,6 +281,26 @@ impl LiveIndex {
         Ok(len)
     }
 
+    /// Whether a change ran out of memory. An index that is not poisoned represents some log.
+    pub fn is_poisoned(&self) -> bool
+        ensures poisoned { result ≡ self.now.poisoned }
+        ensures represents { self.now.poisoned ≡ false →
+            (log : IndexLog) × Represents self.now log }
+    {
+        self.poisoned
+    }
+
+    /// How many events are live.
+    pub fn len(&self) -> usize
+        ensures { result ≡ length self.now.events }
+    {
+        if self.poisoned { 0 } else { self.slots.len() }
+    }
+}
+
+impl LiveIndex {
+    ghost use Rattle.live_index.specs.Lending.{StaysTheSame};
+
     /// The live event of this host and this service, each of which may be absent. It counts an entry where there is
     /// one. It takes no memory, and the index stays as it is. A poisoned one has no events.
     pub fn get<G: Ledger>(
@@ -294,21 +322,5 @@ impl LiveIndex {
             return None;
         }
         self.slots.get(host, service, steps)
-    }
-
-    /// Whether a change ran out of memory. An index that is not poisoned represents some log.
-    pub fn is_poisoned(&self) -> bool
-        ensures poisoned { result ≡ self.now.poisoned }
-        ensures represents { self.now.poisoned ≡ false →
-            (log : IndexLog) × Represents self.now log }
-    {
-        self.poisoned
-    }
-
-    /// How many events are live.
-    pub fn len(&self) -> usize
-        ensures { result ≡ length self.now.events }
-    {
-        if self.poisoned { 0 } else { self.slots.len() }
     }
 }

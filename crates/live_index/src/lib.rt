@@ -2,11 +2,9 @@
 #![tactic(auto)]
 
 mod by_value;
-mod hints;
 mod index;
 mod keyed;
-mod measured;
 mod ordered;
 mod slots;
 
-pub use index::LiveIndex;
+pub use index::{EventIndex, LiveIndex, PackedIndex};

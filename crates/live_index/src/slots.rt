@@ -7,36 +7,48 @@ ghost use Rattle.linked_slots.specs.Table.{value_at, Changes, IsLive};
 ghost use Rattle.tick_schedule.specs.Queue.{IsRising, Sets};
 ghost use Rattle.pred_eval.specs.Truth.{holds};
 ghost use Rattle.live_index.specs.Index.{events_lent, reply_len, visited};
-ghost use Rattle.live_index.specs.Slots.{key_of, events_in, events_at, event_of, slot_of, is_by, AreLive, IsLinked, IsStored, IsTaking, Puts};
+ghost use Rattle.packed_key.specs.Key.{key_lent};
+ghost use Rattle.live_index.specs.Slots.{key_of, events_in, events_at, event_of, slot_of, is_by, is_past, AreLive, IsLinked, IsStored, IsTaking, Puts};
 
-use crate::hints::{Hints, hash_of};
+mod packed;
+
 use crate::keyed::KeyedEvent;
-use crate::measured::{EMPTY_REPLY, MeasuredEvent};
 use crate::ordered::OrderedKeys;
 use ev_types::{DEFAULT_TTL, Event, Events, LATEST_MOMENT, Memory, Text};
+use key_hints::Hints;
 use linked_slots::StepTable;
 use list_laws::Ids;
+use packed_key::KeyRef;
 use pred_eval::Pred;
 use std::alloc::Global;
 use std::collections::BTreeSet;
 use std::mem;
 use step_count::{Ledger, NoLedger, Steps};
+use stored_event::{EMPTY_REPLY, EventForm, MeasuredEvent, Stored};
 use tick_schedule::DueQueue;
 
 /// The events of an index, by host and by service, absent before present.
 #[derive(Drop)]
-pub(crate) struct Slots {
+pub(crate) struct Slots<P: EventForm> {
     // The key of an event has its number. The queue has the moments at which events expire, by number.
     numbers: OrderedKeys,
-    events: StepTable<MeasuredEvent>,
+    events: StepTable<Stored<P>>,
     due: DueQueue,
     count: usize,
     // A write looks here for the number of its key first.
     hints: Hints,
 }
 
-impl Slots {
-    pub(crate) fn fresh(alloc: Global) -> Slots
+/// A host and a service that have no event yet, and their hash.
+#[derive(Drop)]
+struct NewKey {
+    hash: u64,
+    host: Option<Text>,
+    service: Option<Text>,
+}
+
+impl<P: EventForm> Slots<P> {
+    pub(crate) fn fresh(alloc: Global) -> Slots<P>
         ensures stored { IsStored result.numbers result.events.values result.due result.count }
         ensures events { events_in result.numbers result.events.values ≡ [] }
     {
@@ -76,7 +88,7 @@ impl Slots {
         ensures puts { OnOk result (Puts (key_of event.old) (Some event.old)
             self.old.numbers self.old.events.values self.new.numbers self.new.events.values) }
     {
-        let hash = hash_of(event);
+        let hash = KeyRef::of(event).hash();
         match self.number_of(hash, event) {
             Some(number) => {
                 self.hints.note(hash, number);
@@ -91,7 +103,7 @@ impl Slots {
         requires { IsLinked self.now.numbers self.now.events.values }
         ensures { result ≡ number_at (key_of event.now) self.now.numbers }
     {
-        match self.hinted(hash, event) {
+        match self.hinted(hash, KeyRef::of(event)) {
             Some(number) => Some(number),
             None => self
                 .numbers
@@ -99,24 +111,24 @@ impl Slots {
         }
     }
 
-    /// The number of the event's host and service, if it is one of the two that were noted for the hash.
-    fn hinted(&self, hash: u64, event: &Event) -> Option<usize>
+    /// The number of the key, if it is one of the two that were noted for the hash.
+    fn hinted(&self, hash: u64, key: KeyRef<'_>) -> Option<usize>
         requires { IsLinked self.now.numbers self.now.events.values }
         ensures { IfSome result (λ number.
-            number_at (key_of event.now) self.now.numbers ≡ Some number) }
+            number_at (key_lent key.entry) self.now.numbers ≡ Some number) }
     {
         let (last, earlier) = self.hints.pair(hash)?;
-        match self.checked_hint(last, event) {
+        match self.checked_hint(last, key) {
             Some(number) => Some(number),
-            None => self.checked_hint(earlier, event),
+            None => self.checked_hint(earlier, key),
         }
     }
 
-    /// The number, if an event of the same host and service has it.
-    fn checked_hint(&self, number: usize, event: &Event) -> Option<usize>
+    /// The number, if an event of this key has it.
+    fn checked_hint(&self, number: usize, key: KeyRef<'_>) -> Option<usize>
         requires { IsLinked self.now.numbers self.now.events.values }
         ensures { IfSome result (λ number.
-            number_at (key_of event.now) self.now.numbers ≡ Some number) }
+            number_at (key_lent key.entry) self.now.numbers ≡ Some number) }
     {
         if !self.events.contains(number) {
             return None;
@@ -124,15 +136,15 @@ impl Slots {
         // A write counts no entries.
         let mut uncounted = Steps::fresh(NoLedger);
         let known = self.events.read(number, &mut uncounted);
-        if has_same_key(known.event(), event) {
+        if known.key().is(key) {
             Some(number)
         } else {
             None
         }
     }
 
-    /// Swaps an event with the one of this number, which is of the same host and service. Where both expire at the same
-    /// moment it takes no memory.
+    /// Moves an event in place of the one of this number, which is of the same host and service. Where that owns its
+    /// parts, and both expire at the same moment, it takes no memory.
     fn replace(&mut self, alloc: Global, number: usize, event: &mut Event) -> Result<(), Memory>
         requires stored { IsStored self.old.numbers self.old.events.values
             self.old.due self.old.count }
@@ -144,7 +156,7 @@ impl Slots {
             self.old.numbers self.old.events.values self.new.numbers self.new.events.values) }
     {
         let due = due_moment(event);
-        swap_at(&mut self.events, number, event);
+        write_at(alloc, &mut self.events, number, event)?;
         set_due(alloc, &mut self.due, number, due)?;
         Ok(())
     }
@@ -178,41 +190,48 @@ impl Slots {
         ensures puts { OnOk result (Puts (key_of event.old) (Some event.old)
             self.old.numbers self.old.events.values self.new.numbers self.new.events.values) }
     {
+        let host = copy_text(alloc, event.host.as_ref())?;
+        let service = copy_text(alloc, event.service.as_ref())?;
+        let key = NewKey {
+            hash,
+            host,
+            service,
+        };
+        let due = due_moment(event);
+        let moved = mem::replace(event, Event::at(alloc, 0));
+        let stored = Stored::of_event(alloc, moved)?;
+        self.add(alloc, key, stored, due)
+    }
+
+    /// Adds the event of this key, which has none yet. It is late from the moment `due` on.
+    fn add(
+        &mut self,
+        alloc: Global,
+        key: NewKey,
+        event: Stored<P>,
+        due: Option<u64>,
+    ) -> Result<(), Memory>
+        requires stored { IsStored self.old.numbers self.old.events.values
+            self.old.due self.old.count }
+        requires key { key_of event ≡ (key.host, key.service) }
+        requires absent { number_at (key_of event) self.old.numbers ≡ None }
+        requires current { ends_key event ≡ false }
+        requires timed { (now : ℕ) → now ≤ 2 ^ 40 → is_by now due ≡ is_late now event }
+        ensures stored { OnOk result
+            (IsStored self.new.numbers self.new.events.values self.new.due self.new.count) }
+        ensures puts { OnOk result (Puts (key_of event) (Some event)
+            self.old.numbers self.old.events.values self.new.numbers self.new.events.values) }
+    {
         let Some(count) = self.count.checked_add(1) else {
             return Err(Memory);
         };
-        let host = copy_text(alloc, event.host.as_ref())?;
-        let service = copy_text(alloc, event.service.as_ref())?;
-        let due = due_moment(event);
-        let event = mem::replace(event, Event::at(alloc, 0));
-        let number = self.events.add(alloc, MeasuredEvent::of(event))?;
-        self.numbers.insert(alloc, host, service, number)?;
+        let number = self.events.add(alloc, event)?;
+        self.numbers.insert(alloc, key.host, key.service, number)?;
         self.count = count;
         self.hints.reserve(alloc, count);
-        self.hints.note(hash, number);
+        self.hints.note(key.hash, number);
         set_due(alloc, &mut self.due, number, due)?;
         Ok(())
-    }
-
-    /// The event of this host and this service. It counts an entry where there is one, and takes no memory.
-    pub(crate) fn get<G: Ledger>(
-        &self,
-        host: Option<&Text>,
-        service: Option<&Text>,
-        steps: &mut Steps<G>,
-    ) -> Option<&Event>
-        requires { IsStored self.now.numbers self.now.events.values self.now.due self.now.count }
-        ensures event { option_copied result ≡ event_of
-            (option_copied host.entry, option_copied service.entry)
-            self.now.numbers self.now.events.values }
-        ensures forks { steps.new.forks ≡ steps.old.forks }
-        ensures found { IsSome result → steps.new.entries ≡ steps.old.entries + 1 }
-        ensures absent { IsNone result → steps.new.entries ≡ steps.old.entries }
-        ensures entries { steps.new.entries ≤ steps.old.entries + 1 }
-        ensures began { steps.new.began ≡ steps.old.began }
-    {
-        let number = self.numbers.get(host, service)?;
-        Some(self.events.read(number, steps).event())
     }
 
     /// How many events there are.
@@ -288,7 +307,7 @@ impl Slots {
         &'a self,
         alloc: Global,
         pred: &mut Pred,
-        found: &mut Vec<&'a Event>,
+        found: &mut Vec<&'a Stored<P>>,
         steps: &mut Steps<G>,
     ) -> Result<(), Memory>
         requires { IsStored self.now.numbers self.now.events.values self.now.due self.now.count }
@@ -325,7 +344,7 @@ impl Slots {
         alloc: Global,
         pred: &mut Pred,
         limit: usize,
-        found: &mut Vec<&'a Event>,
+        found: &mut Vec<&'a Stored<P>>,
         steps: &mut Steps<G>,
     ) -> Result<(), Memory>
         requires { IsStored self.now.numbers self.now.events.values self.now.due self.now.count }
@@ -403,13 +422,18 @@ impl Slots {
     {
         let mut events = BTreeSet::new(alloc);
         for number in numbers {
-            self.take_into(*number, &mut events)?;
+            self.take_into(alloc, *number, &mut events)?;
         }
         Ok(events)
     }
 
     /// Takes the event with this number out, and puts it among the events.
-    fn take_into(&mut self, number: usize, events: &mut BTreeSet<KeyedEvent>) -> Result<(), Memory>
+    fn take_into(
+        &mut self,
+        alloc: Global,
+        number: usize,
+        events: &mut BTreeSet<KeyedEvent>,
+    ) -> Result<(), Memory>
         requires linked { IsLinked self.old.numbers self.old.events.values }
         requires counted { self.old.count ≡ length self.old.numbers }
         ensures linked { OnOk result (IsLinked self.new.numbers self.new.events.values) }
@@ -421,49 +445,73 @@ impl Slots {
             IsTaking (gone ++ number ∷ []) numbers table self.new.numbers self.new.events.values
             events.new.keys) }
     {
-        let Some(event) = self.take(number) else {
+        let Some(event) = self.take(alloc, number)? else {
             return Ok(());
         };
         events.replace(KeyedEvent { event })?;
         Ok(())
     }
 
-    /// Takes the event with this number out.
-    fn take(&mut self, number: usize) -> Option<Event>
+    /// Takes the event with this number out. It then owns its parts, which takes memory only if it was packed.
+    fn take(&mut self, alloc: Global, number: usize) -> Result<Option<Event>, Memory>
         requires linked { IsLinked self.old.numbers self.old.events.values }
         requires counted { self.old.count ≡ length self.old.numbers }
-        ensures linked { IsLinked self.new.numbers self.new.events.values }
-        ensures counted { self.new.count ≡ length self.new.numbers }
+        ensures linked { OnOk result (IsLinked self.new.numbers self.new.events.values) }
+        ensures counted { OnOk result (self.new.count ≡ length self.new.numbers) }
         ensures due { self.new.due ≡ self.old.due }
-        ensures taken { result ≡ value_at self.old.events.values number }
-        ensures slots { (other : ℕ) → value_at self.new.events.values other
-            ≡ (if eqb other number then None else value_at self.old.events.values other) }
-        ensures puts { IfSome result (λ event. Puts (key_of event) None
-            self.old.numbers self.old.events.values self.new.numbers self.new.events.values) }
-        ensures same { result ≡ None → (self.new.numbers ≡ self.old.numbers)
-            × (self.new.events.values ≡ self.old.events.values) }
+        ensures taken { IfOk result (λ event. event ≡ value_at self.old.events.values number) }
+        ensures slots { OnOk result ((other : ℕ) → value_at self.new.events.values other
+            ≡ (if eqb other number then None else value_at self.old.events.values other)) }
+        ensures puts { IfOk result (λ event. IfSome event (λ event. Puts (key_of event) None
+            self.old.numbers self.old.events.values self.new.numbers self.new.events.values)) }
+        ensures same { IfOk result (λ event. event ≡ None
+            → (self.new.numbers ≡ self.old.numbers)
+            × (self.new.events.values ≡ self.old.events.values)) }
     {
         if !self.events.contains(number) {
-            return None;
+            return Ok(None);
         }
-        let event = self.events.remove(number);
-        let event = event.into_event();
+        let stored = self.events.remove(number);
+        let event = stored.into_event(alloc)?;
         self.numbers
             .remove(event.host.as_ref(), event.service.as_ref());
         self.count -= 1;
-        Some(event)
+        Ok(Some(event))
+    }
+}
+
+impl Slots<MeasuredEvent> {
+    /// The event of this host and this service. It counts an entry where there is one, and takes no memory.
+    pub(crate) fn get<G: Ledger>(
+        &self,
+        host: Option<&Text>,
+        service: Option<&Text>,
+        steps: &mut Steps<G>,
+    ) -> Option<&Event>
+        requires { IsStored self.now.numbers self.now.events.values self.now.due self.now.count }
+        ensures event { option_copied result ≡ event_of
+            (option_copied host.entry, option_copied service.entry)
+            self.now.numbers self.now.events.values }
+        ensures forks { steps.new.forks ≡ steps.old.forks }
+        ensures found { IsSome result → steps.new.entries ≡ steps.old.entries + 1 }
+        ensures absent { IsNone result → steps.new.entries ≡ steps.old.entries }
+        ensures entries { steps.new.entries ≤ steps.old.entries + 1 }
+        ensures began { steps.new.began ≡ steps.old.began }
+    {
+        let number = self.numbers.get(host, service)?;
+        Some(self.events.read(number, steps).event())
     }
 }
 
 /// Appends the first `limit` events with these numbers that meet the predicate, where they lie. It counts an entry for
 /// each number up to that of the last of them.
-fn find_at<'a, G: Ledger>(
+fn find_at<'a, P: EventForm, G: Ledger>(
     alloc: Global,
-    events: &'a StepTable<MeasuredEvent>,
+    events: &'a StepTable<Stored<P>>,
     numbers: &[usize],
     pred: &mut Pred,
     limit: usize,
-    found: &mut Vec<&'a Event>,
+    found: &mut Vec<&'a Stored<P>>,
     steps: &mut Steps<G>,
 ) -> Result<(), Memory>
     requires { AreLive events.now.values numbers.now }
@@ -485,24 +533,24 @@ fn find_at<'a, G: Ledger>(
             return Ok(());
         }
         let event = events.read(*number, steps);
-        find_one(alloc, event.event(), pred, found)?;
+        find_one(alloc, event, pred, found)?;
     }
     Ok(())
 }
 
 /// Appends the event, where it meets the predicate.
-fn find_one<'a>(
+fn find_one<'a, P: EventForm>(
     alloc: Global,
-    event: &'a Event,
+    event: &'a Stored<P>,
     pred: &mut Pred,
-    found: &mut Vec<&'a Event>,
+    found: &mut Vec<&'a Stored<P>>,
 ) -> Result<(), Memory>
     ensures same { pred.new ≡ pred.old }
     ensures ok { OnOk result (events_lent found.new.items ≡ events_lent found.old.items
         ++ filter (holds pred.old) (event.now ∷ [])) }
     ensures err { OnErr result (events_lent found.new.items ≡ events_lent found.old.items) }
 {
-    if pred.holds(alloc, event)? {
+    if pred.holds_of(alloc, event)? {
         found.push(event)?;
     }
     Ok(())
@@ -510,9 +558,9 @@ fn find_one<'a>(
 
 /// How many bytes a reply has with those events with these numbers that meet the predicate. It counts an entry for each
 /// number.
-fn found_len_at<G: Ledger>(
+fn found_len_at<P: EventForm, G: Ledger>(
     alloc: Global,
-    events: &mut StepTable<MeasuredEvent>,
+    events: &mut StepTable<Stored<P>>,
     numbers: &[usize],
     pred: &mut Pred,
     steps: &mut Steps<G>,
@@ -537,9 +585,9 @@ fn found_len_at<G: Ledger>(
 }
 
 /// How many bytes the event with this number adds to a reply, if it meets the predicate, and else 0.
-fn added_len<G: Ledger>(
+fn added_len<P: EventForm, G: Ledger>(
     alloc: Global,
-    events: &mut StepTable<MeasuredEvent>,
+    events: &mut StepTable<Stored<P>>,
     number: usize,
     pred: &mut Pred,
     steps: &mut Steps<G>,
@@ -557,17 +605,20 @@ fn added_len<G: Ledger>(
 }
 
 /// How many bytes the event adds to a reply, if it meets the predicate, and else 0.
-fn len_found(alloc: Global, event: &mut MeasuredEvent, pred: &mut Pred) -> Result<usize, Memory>
+fn len_found<P: EventForm>(
+    alloc: Global,
+    event: &mut Stored<P>,
+    pred: &mut Pred,
+) -> Result<usize, Memory>
     ensures same { pred.new ≡ pred.old }
     ensures event { event.new ≡ event.old }
     ensures ok { IfOk result (λ len. 2 + len ≡ reply_len
         (filter (holds pred.old) (event.old ∷ []))) }
 {
-    if pred.holds(alloc, event.event())? {
-        event.len()
-    } else {
-        Ok(0)
+    if !pred.holds_of(alloc, event)? {
+        return Ok(0);
     }
+    event.len()
 }
 
 fn sum(a: usize, b: usize) -> Result<usize, Memory>
@@ -576,19 +627,27 @@ fn sum(a: usize, b: usize) -> Result<usize, Memory>
     a.checked_add(b).ok_or(Memory)
 }
 
-/// Swaps the event with the one of this number.
-fn swap_at(events: &mut StepTable<MeasuredEvent>, number: usize, event: &mut Event)
+/// Moves the event in place of the one of this number.
+fn write_at<P: EventForm>(
+    alloc: Global,
+    events: &mut StepTable<Stored<P>>,
+    number: usize,
+    event: &mut Event,
+) -> Result<(), Memory>
     requires { IsLive events.old.values number }
-    ensures given { value_at events.old.values number ≡ Some event.new }
-    ensures swapped { Changes events.old.values events.new.values number (Some event.old) }
+    ensures { OnOk result (Changes events.old.values events.new.values number (Some event.old)) }
 {
     // A write counts no entries.
     let mut uncounted = Steps::fresh(NoLedger);
-    events.visit(number, &mut uncounted).swap(event);
+    events.visit(number, &mut uncounted).take_from(alloc, event)
 }
 
 /// Appends copies of the events, in order.
-fn copy_all(alloc: Global, events: &[&Event], out: &mut Events) -> Result<(), Memory>
+fn copy_all<P: EventForm>(
+    alloc: Global,
+    events: &[&Stored<P>],
+    out: &mut Events,
+) -> Result<(), Memory>
     ensures ok { OnOk result (out.new ≡ out.old ++ events_lent events.now) }
     ensures prefix { OnErr result (IsPrefix out.old out.new) }
 {
@@ -628,13 +687,20 @@ fn set_due(
     }
 }
 
-/// The moment from which on the event is late. One after the last moment of the clock is left out, so that the event
-/// stays until another one takes its place, and one before 1970 is 0.
+/// The moment from which on the event is late.
 fn due_moment(event: &Event) -> Option<u64>
     ensures { (now : ℕ) → now ≤ 2 ^ 40 → is_by now result ≡ is_late now event.now }
 {
-    let ttl = event.ttl.unwrap_or(DEFAULT_TTL);
-    let due = i128::from(event.time) + i128::from(ttl) + 1;
+    due_of(event.time, event.ttl)
+}
+
+/// The moment from which on an event with this time and this ttl is late. One after the last moment of the clock is
+/// left out, so that the event stays until another one takes its place, and one before 1970 is 0.
+fn due_of(time: i64, ttl: Option<u32>) -> Option<u64>
+    ensures { (now : ℕ) → now ≤ 2 ^ 40 → is_by now result ≡ is_past now time ttl }
+{
+    let ttl = ttl.unwrap_or(DEFAULT_TTL);
+    let due = i128::from(time) + i128::from(ttl) + 1;
     if due > i128::from(LATEST_MOMENT) {
         return None;
     }
@@ -642,25 +708,6 @@ fn due_moment(event: &Event) -> Option<u64>
         return Some(0);
     }
     Some(due as u64)
-}
-
-/// Whether the events are of one host and service.
-fn has_same_key(a: &Event, b: &Event) -> bool
-    ensures { result ≡ true → key_of a.now ≡ key_of b.now }
-{
-    is_same_text(a.host.as_ref(), b.host.as_ref())
-        && is_same_text(a.service.as_ref(), b.service.as_ref())
-}
-
-/// Whether both texts are absent, or both are present with the same bytes.
-fn is_same_text(a: Option<&Text>, b: Option<&Text>) -> bool
-    ensures { result ≡ true → option_copied a.entry ≡ option_copied b.entry }
-{
-    match (a, b) {
-        (None, None) => true,
-        (Some(a), Some(b)) => a.is(b.as_bytes()),
-        _ => false,
-    }
 }
 
 fn copy_text(alloc: Global, text: Option<&Text>) -> Result<Option<Text>, Memory>

@@ -9,6 +9,7 @@ use Rattle.event_core.specs.declared.arrivals.Core.{Core}
 use Rattle.event_core.specs.Core.{Heard, Receives, Represents, CoreConfig, now_of, notices_by, config_of, state_by}
 use Rattle.index_log.specs.Live.{IndexLog}
 use Rattle.list_laws.specs.declared.memory.Memory.{Memory}
+use Rattle.packed_msg.specs.Sent.{sent_of}
 use Rattle.pred_eval.specs.Tree.{Tree}
 use Rattle.query_lang.specs.declared.fault.QueryFault.{QueryFault}
 use Rattle.query_lang.specs.declared.fault.QueryFault.TheVariants.{TooLong, Refused as QueryRefused, TooDeep}
@@ -22,8 +23,8 @@ use Rattle.riemann_msg.specs.Value.{message_of}
 use Rattle.step_count.specs.Count.{StepCount}
 use Rattle.stream_meaning.specs.Arrivals.{Arrival, Post}
 use Rattle.hub_meaning.specs.Messages.{posts_of, reading_of, rule_of, rule_of_query, rule_read}
-use Rattle.hub_meaning.specs.Replies.{answer_to_query, answer_to_text, framed, message_refusal, query_refusal, refused}
-use Rattle.hub_meaning.specs.Replies.{reply_to}
+use Rattle.hub_meaning.specs.Replies.{accepted, answer_to_query, answer_to_text, framed, message_refusal, query_refusal}
+use Rattle.hub_meaning.specs.Replies.{refused, reply_to}
 use Rattle.hub_meaning.specs.Verdicts.{PatternsReport, Refusal, built_rule, is_busy}
 use Rattle.msg_replies.specs.Arriving.{Arrives, Reported, reported}
 use Rattle.msg_replies.specs.Answering.{AfterVerdict, AnswersMessage, AnswersQuery, asked_of}
@@ -234,6 +235,25 @@ answers_nothing body unsent core core' patterns replies replies' old new memory 
   verdict = no_verdict (built_rule (now_of core) unsent body) patterns;
   answered = tt;
 }
+
+-- a message that is nothing but events was accepted
+pub answers_plain : (body : List ℕ) (unsent : ℕ) (events : List Event) (core core' : Core) (patterns : PatternsReport)
+    (replies replies' : List ℕ) (old new : Reported) (result : Result (Unit {0}) Memory)
+    → first_fault body ≡ None → message_of (now_of core) body ≡ sent_of events
+    → OnOk result (now_of core' ≡ now_of core)
+    → OnOk result ((arrivals : List Arrival) → Represents core arrivals
+    → Arrives core core' arrivals (map Post events) old new)
+    → OnOk result (replies' ≡ replies ++ framed accepted)
+    → AnswersMessage body unsent core core' patterns patterns replies replies' old new result
+answers_plain body unsent events core core' patterns replies replies' old new (Ok done) clean sent now arrives wrote =
+    answers_accepted body unsent (sent_of events) core core' patterns patterns replies replies' old new (Ok done)
+    (clean, sym sent) now arrives (record {
+      refusal = None;
+      verdict = no_verdict (asked_of unsent None) patterns;
+      answered = λ arrivals holds. wrote;
+    })
+answers_plain body unsent events core core' patterns replies replies' old new (Err memory) clean sent now arrives wrote =
+    answers_nothing body unsent core core' patterns replies replies' old new memory
 
 -- ---- a query
 

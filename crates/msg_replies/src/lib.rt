@@ -4,7 +4,9 @@
 
 mod queries;
 mod replies;
+mod spare;
 
 pub use event_core;
 pub use hub_meaning;
 pub use replies::{answer, refuse_length};
+pub use spare::Spare;

@@ -12,15 +12,17 @@ ghost use Rattle.stream_meaning.specs.Arrivals.{Arrival, matching_events};
 ghost use Rattle.msg_replies.specs.Answering.{AnswersQuery, asked_of};
 
 use crate::replies::{accept, refuse};
-use ev_types::{Blob, Event, Memory};
+use ev_types::{Blob, Memory};
 use event_core::Core;
 use framing::BODY_LIMIT;
+use packed_event::PackedEvent;
 use pred_eval::{BuildFault, Patterns, Pred, Rule};
 use query_lang::{MAX_BYTES, QueryFault, read_query};
-use riemann_msg::{QueryPart, found_len, write_found};
+use riemann_msg::QueryPart;
 use std::alloc::{AllocError, Global};
 use std::mem;
 use step_count::{Ledger, Steps};
+use stored_event::{Stored, found_len, write_lent};
 
 /// The length of a reply with at most so many events is summed over them. It takes half a microsecond for each.
 const FEW: usize = 4_096;
@@ -204,7 +206,11 @@ fn put_few<G: Ledger>(
 /// Appends a reply with these events, written from where they lie, or that it would be too long. The length is known
 /// before a byte is written.
 #[tactic(auto, using(crate::proofs::Lengths::limited_within, crate::proofs::Lengths::limited_over))]
-fn put_limited(alloc: Global, events: &[&Event], replies: &mut Blob) -> Result<(), Memory>
+fn put_limited(
+    alloc: Global,
+    events: &[&Stored<PackedEvent>],
+    replies: &mut Blob,
+) -> Result<(), Memory>
     ensures { OnOk result (replies.new
         ≡ replies.old ++ framed (limited (found (events_lent events.now)))) }
 {
@@ -263,7 +269,12 @@ fn put_events<G: Ledger>(
 
 /// Appends a reply with these events, written from where they lie. It has `size` bytes.
 #[tactic(auto, unfolding(hub_meaning::specs::Replies::framed))]
-fn put_lent(alloc: Global, events: &[&Event], size: usize, replies: &mut Blob) -> Result<(), Memory>
+fn put_lent(
+    alloc: Global,
+    events: &[&Stored<PackedEvent>],
+    size: usize,
+    replies: &mut Blob,
+) -> Result<(), Memory>
     requires { size < 2 ^ 32 }
     ensures { OnOk result (size ≡ length (spelling (found (events_lent events.now)))
         → replies.new ≡ replies.old ++ framed (found (events_lent events.now))) }
@@ -271,7 +282,7 @@ fn put_lent(alloc: Global, events: &[&Event], size: usize, replies: &mut Blob) -
     let length = size as u32;
     reserve(alloc, 4 + size, replies)?;
     replies.append(alloc, &length.to_be_bytes())?;
-    write_found(alloc, events, replies)?;
+    write_lent(alloc, events, replies)?;
     Ok(())
 }
 

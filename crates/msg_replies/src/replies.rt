@@ -1,4 +1,4 @@
-ghost use Rattle.std.specs.Prelude.{◌≡◌, ◌^◌, ◌<◌, ◌++◌, [], length, map, OnOk, IfOk, List, Some, None};
+ghost use Rattle.std.specs.Prelude.{◌≡◌, ◌^◌, ◌<◌, ◌++◌, [], ◌∷◌, length, map, OnOk, IfOk, List, Some, None};
 ghost use Rattle.std.specs.String.{string_bytes};
 ghost use Rattle.event_core.specs.Core.{Represents, now_of};
 ghost use Rattle.hub_meaning.specs.Replies.{accepted, framed, message_refusal, refused, reply_to_oversized, oversized};
@@ -9,9 +9,12 @@ ghost use Rattle.msg_replies.specs.Answering.{AnswersMessage};
 ghost use Rattle.msg_replies.specs.Arriving.{Arrives, reported};
 
 use crate::queries::answer_query;
+use crate::spare::Spare;
 use ev_types::{Blob, Event, Events, Memory, Notices, Text};
 use event_core::Core;
 use framing::BODY_LIMIT;
+use packed_event::PackedRef;
+use packed_msg::{plain_event, plain_events};
 use pred_eval::Patterns;
 use riemann_msg::{Msg, MsgFault, MsgWhy, SpentEvents, msg_len, read_msg_into, write_msg};
 use std::alloc::{AllocError, Global};
@@ -19,9 +22,127 @@ use std::mem;
 use step_count::{Ledger, Steps};
 
 /// Posts the events of a message, and appends the reply to it. `unsent` is how many bytes of earlier replies to its
-/// link were not taken. The message is read into the memory of `spent`. Afterwards its own events are there, if it was
-/// accepted and they are at most 128, and else none.
+/// link were not taken. If the message is nothing but events that are spelled as this server writes them, they are
+/// posted from where they lie. Any other message is read into the memory of `spare`. Afterwards its own events are
+/// there, if it was accepted and they are at most 128, and else none.
 pub fn answer<P: Patterns, G: Ledger>(
+    alloc: Global,
+    body: &[u8],
+    unsent: usize,
+    spare: &mut Spare,
+    core: &mut Core,
+    patterns: &mut P,
+    replies: &mut Blob,
+    notices: &mut Notices,
+    steps: &mut Steps<G>,
+) -> Result<(), Memory>
+    ensures { AnswersMessage body.now unsent core.old core.new (P.report patterns.old)
+        (P.report patterns.new) replies.old replies.new (reported notices.old steps.old.forks)
+        (reported notices.new steps.new.forks) result }
+{
+    match plain_event(body) {
+        Some(event) => {
+            let spare = &mut spare.event;
+            answer_event(alloc, &event, spare, core, replies, notices, steps)
+        }
+        None => answer_other(
+            alloc, body, unsent, spare, core, patterns, replies, notices, steps,
+        ),
+    }
+}
+
+/// Posts an event that is a whole message, and appends the reply to it.
+fn answer_event<G: Ledger>(
+    alloc: Global,
+    event: &PackedRef<'_>,
+    spare: &mut Event,
+    core: &mut Core,
+    replies: &mut Blob,
+    notices: &mut Notices,
+    steps: &mut Steps<G>,
+) -> Result<(), Memory>
+    ensures now { OnOk result (now_of core.new ≡ now_of core.old) }
+    ensures arrives { OnOk result ((arrivals : List Arrival) → Represents core.old arrivals
+        → Arrives core.old core.new arrivals (Post event.now ∷ [])
+        (reported notices.old steps.old.forks) (reported notices.new steps.new.forks)) }
+    ensures reply { OnOk result (replies.new ≡ replies.old ++ framed accepted) }
+{
+    core.post_packed(alloc, event, spare, notices, steps)?;
+    accept(alloc, replies)
+}
+
+/// Answers a message that is not one plain event alone.
+fn answer_other<P: Patterns, G: Ledger>(
+    alloc: Global,
+    body: &[u8],
+    unsent: usize,
+    spare: &mut Spare,
+    core: &mut Core,
+    patterns: &mut P,
+    replies: &mut Blob,
+    notices: &mut Notices,
+    steps: &mut Steps<G>,
+) -> Result<(), Memory>
+    ensures { AnswersMessage body.now unsent core.old core.new (P.report patterns.old)
+        (P.report patterns.new) replies.old replies.new (reported notices.old steps.old.forks)
+        (reported notices.new steps.new.forks) result }
+{
+    match plain_events(alloc, body)? {
+        Some(events) => {
+            let spare = &mut spare.event;
+            answer_events(alloc, &events, spare, core, replies, notices, steps)
+        }
+        None => {
+            let spent = &mut spare.events;
+            answer_read(
+                alloc, body, unsent, spent, core, patterns, replies, notices, steps,
+            )
+        }
+    }
+}
+
+/// Posts the events that are a whole message, in order, and appends the reply to it.
+fn answer_events<G: Ledger>(
+    alloc: Global,
+    events: &[PackedRef<'_>],
+    spare: &mut Event,
+    core: &mut Core,
+    replies: &mut Blob,
+    notices: &mut Notices,
+    steps: &mut Steps<G>,
+) -> Result<(), Memory>
+    ensures now { OnOk result (now_of core.new ≡ now_of core.old) }
+    ensures arrives { OnOk result ((arrivals : List Arrival) → Represents core.old arrivals
+        → Arrives core.old core.new arrivals (map Post events.now)
+        (reported notices.old steps.old.forks) (reported notices.new steps.new.forks)) }
+    ensures reply { OnOk result (replies.new ≡ replies.old ++ framed accepted) }
+{
+    post_plain(alloc, events, spare, core, notices, steps)?;
+    accept(alloc, replies)
+}
+
+/// The events come to the core, in order, from where they lie.
+fn post_plain<G: Ledger>(
+    alloc: Global,
+    events: &[PackedRef<'_>],
+    spare: &mut Event,
+    core: &mut Core,
+    notices: &mut Notices,
+    steps: &mut Steps<G>,
+) -> Result<(), Memory>
+    ensures now { OnOk result (now_of core.new ≡ now_of core.old) }
+    ensures arrives { OnOk result ((arrivals : List Arrival) → Represents core.old arrivals
+        → Arrives core.old core.new arrivals (map Post events.now)
+        (reported notices.old steps.old.forks) (reported notices.new steps.new.forks)) }
+{
+    for event in events {
+        core.post_packed(alloc, event, spare, notices, steps)?;
+    }
+    Ok(())
+}
+
+/// Reads a message into the memory of `spent`, and answers it.
+fn answer_read<P: Patterns, G: Ledger>(
     alloc: Global,
     body: &[u8],
     unsent: usize,

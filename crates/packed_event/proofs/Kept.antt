@@ -1,6 +1,7 @@
 -- Bytes that are kept are those of one event, and where they lie in a reply.
 use Rattle.std.proofs.Common.{◌≡◌, ℕ, ◌+◌, ◌^◌, ◌<◌, List, [], ◌∷◌, ◌++◌, drop, length, Some, None, pos, refl, sym, ap}
-use Rattle.std.proofs.Common.{◌∙◌, length-append, arith}
+use Rattle.std.proofs.Common.{◌∙◌, Option, subst, length-append, arith}
+use Rattle.std.specs.Prelude.{IfSome}
 use Rattle.std.proofs.lemmas.List.{append-nil}
 use Rattle.ev_types.specs.declared.event.Event.{Event}
 use Rattle.pb_wire.specs.Spelling.{Bytes, Varint, field_spelling}
@@ -9,7 +10,7 @@ use Rattle.riemann_msg.specs.ReadBack.{IsWellFormedEvent}
 use Rattle.riemann_msg.specs.Reply.{found}
 use Rattle.riemann_msg.specs.Spelling.{message_values, spelling}
 use Rattle.riemann_msg.specs.Value.{event_of}
-use Rattle.packed_event.specs.Kept.{bytes_of, event_in}
+use Rattle.packed_event.specs.Kept.{bytes_of, event_in, IsKept}
 use Rattle.packed_event.specs.Packed.{IsPacked}
 use Rattle.packed_event.specs.Reading.{bytes_part}
 use Rattle.packed_event.specs.declared.places.Places.{Places}
@@ -28,6 +29,35 @@ kept_event bytes places now packed few = sym (packed_is_read now bytes places (e
 pub event_again : (event : Event) → IsWellFormedEvent event → length (bytes_of event) < 2 ^ 32
     → event_in (bytes_of event) ≡ event
 event_again event good few = (event_read_back 0 event good few).1
+
+pub read_again : (bytes : List ℕ) (event : Event) → bytes ≡ bytes_of event → IsWellFormedEvent event
+    → length bytes < 2 ^ 32 → event_in bytes ≡ event
+read_again bytes event same good few =
+    ap event_in same ∙ event_again event good (subst (λ (t : List ℕ). length t < 2 ^ 32) same few)
+
+-- they are kept, with its places
+pub kept_again : (bytes : List ℕ) (places : Places) (event : Event) → bytes ≡ bytes_of event
+    → IsPacked (bytes_of event) places event → length bytes < 2 ^ 32 → IsKept bytes places
+kept_again bytes places event same packed few =
+    let read = read_again bytes event same packed.well_formed few in
+    let here : IsPacked bytes places event =
+    subst (λ (t : List ℕ). IsPacked t places event) (sym same) packed in record {
+      packed = subst (λ (e : Event). IsPacked bytes places e) (sym read) here;
+      few = few;
+    }
+
+-- places in kept bytes are places in the bytes of their event
+pub packed_again : (bytes : List ℕ) (places : Places) → IsKept bytes places
+    → IsPacked (bytes_of (event_in bytes)) places (event_in bytes)
+packed_again bytes places kept =
+    subst (λ (t : List ℕ). IsPacked t places (event_in bytes)) kept.packed.spelled_as kept.packed
+
+-- an event that was found in these bytes is the one whose bytes they are
+pub event_alone : (read : Option Event) (bytes : List ℕ) (event : Event)
+    → IfSome read (λ read. (now : ℕ) → read ≡ event_of (pos now) bytes) → IfSome read (λ read. length bytes < 2 ^ 32)
+    → bytes ≡ bytes_of event → IsWellFormedEvent event → IfSome read (λ read. read ≡ event)
+event_alone None bytes event reads few same good = tt
+event_alone (Some read) bytes event reads few same good = reads 0 ∙ read_again bytes event same good few
 
 pub same_event : (a b : Event) → IsWellFormedEvent a → IsWellFormedEvent b → length (bytes_of a) < 2 ^ 32
     → length (bytes_of b) < 2 ^ 32

@@ -1,14 +1,13 @@
 -- The field of an event that is read alone is that of the event.
-use Rattle.std.proofs.Common.{◌≡◌, ℕ, ℤ, ◌^◌, ◌<◌, List, length, Option, Some, None, refl, sym, ap, ◌∙◌}
+use Rattle.std.proofs.Common.{◌≡◌, ℕ, ◌^◌, ◌<◌, List, length, Option, Some, None, refl, sym, ap, ◌∙◌}
 use Rattle.std.specs.Option.{option_and_then}
-use Rattle.ev_types.specs.declared.event.Attr.{Attr}
 use Rattle.ev_types.specs.declared.event.Event.{Event}
 use Rattle.riemann_msg.specs.ReadBack.{IsWellFormedEvent}
 use Rattle.packed_event.specs.Fields.{attributes_start, description_part, metric_part, state_part, tags_start}
 use Rattle.packed_event.specs.Kept.{bytes_of}
 use Rattle.packed_event.specs.Reading.{Gives, attribute_part, repeated, text_part}
 use Rattle.packed_event.proofs.Parts.{done}
-use Rattle.packed_event.proofs.Unpacked.{EventStages, NameStages, event_stages, name_stages, reads_back}
+use Rattle.packed_event.proofs.Unpacked.{event_stages, name_stages, reads_back}
 
 pub not_none : {A : Type 0} (o : Option A) (x : A) → o ≡ None → o ≡ Some x → ⊥
 not_none o x none some = none_some x (sym none ∙ some)

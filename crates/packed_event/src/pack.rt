@@ -1,18 +1,16 @@
 //! Packing an event that owns its parts.
 
-ghost use Rattle.std.specs.Prelude.{◌≡◌, ◌↔◌, ℕ, ◌^◌, ◌<◌, ◌≤◌, [], ◌∷◌, length, option_copied, pos, IfErr, IfOk, IfSome, IsNone, IsTrue, OnErr, OnOk, Some};
+ghost use Rattle.std.specs.Prelude.{◌≡◌, ◌^◌, ◌≤◌, [], ◌∷◌, length, option_copied, IfErr, IfOk, IfSome, IsNone, OnErr, OnOk, Some};
 ghost use Rattle.ev_types.specs.declared.event.Event.{Event as OneEvent};
 ghost use Rattle.riemann_msg.specs.ReadBack.{IsWellFormedEvent};
 ghost use Rattle.riemann_msg.specs.Reply.{found};
 ghost use Rattle.riemann_msg.specs.Spelling.{spelling};
-ghost use Rattle.riemann_msg.specs.Value.{event_of};
-ghost use Rattle.packed_event.specs.Kept.{bytes_of, event_in, IsUnpackable};
-ghost use Rattle.packed_event.specs.Packed.{IsPacked};
+ghost use Rattle.packed_event.specs.Kept.{bytes_of, IsUnpackable};
 ghost use Rattle.packed_event.specs.declared.pack.PackFault.TheVariants.{Memory as out_of_memory};
 
 use crate::body::counted;
 use crate::packed::PackedEvent;
-use crate::places::{Places, places_of};
+use crate::packed_ref::PackedRef;
 use crate::well_formed::is_well_formed;
 use ev_types::{Blob, Event, Memory};
 use riemann_msg::write_found;
@@ -51,10 +49,10 @@ impl PackedEvent {
             return Err(PackFault::Unspellable);
         }
         let reply = reply_with(alloc, event)?;
-        let Some((bytes, places)) = event_in_reply(reply.as_slice()) else {
+        let Some(lent) = event_in_reply(reply.as_slice()) else {
             return Err(PackFault::TooLong);
         };
-        Ok(PackedEvent::from_bytes(alloc, bytes, places)?)
+        Ok(PackedEvent::copy_of(alloc, &lent)?)
     }
 
     /// Makes it the event, spelled as this server writes it. After a fault nothing has changed.
@@ -67,10 +65,10 @@ impl PackedEvent {
             return Err(PackFault::Unspellable);
         }
         let reply = reply_with(alloc, event)?;
-        let Some((bytes, places)) = event_in_reply(reply.as_slice()) else {
+        let Some(lent) = event_in_reply(reply.as_slice()) else {
             return Err(PackFault::TooLong);
         };
-        self.copy_from(bytes, places)?;
+        self.become_copy(&lent)?;
         Ok(())
     }
 }
@@ -84,21 +82,17 @@ fn reply_with(alloc: Global, event: &Event) -> Result<Blob, Memory>
     Ok(reply)
 }
 
-/// The bytes of the event that a reply has alone, and the places of its parts. `None`: they are 4 GiB or more.
-fn event_in_reply(reply: &[u8]) -> Option<(&[u8], Places)>
-    ensures packed { IfSome result (λ read. (now : ℕ) →
-        IsPacked read.0.now read.1 (event_of (pos now) read.0.now)) }
-    ensures few { IfSome result (λ read. length read.0.now < 2 ^ 32) }
+/// The event that a reply has alone. `None`: its bytes are 4 GiB or more.
+fn event_in_reply(reply: &[u8]) -> Option<PackedRef<'_>>
     ensures event { (event : OneEvent) → IsWellFormedEvent event
         → reply.now ≡ spelling (found (event ∷ []))
-        → IfSome result (λ read. event_in read.0.now ≡ event) }
+        → IfSome result (λ read. read ≡ event) }
     ensures long { (event : OneEvent) → IsWellFormedEvent event
         → reply.now ≡ spelling (found (event ∷ []))
         → IsNone result → 2 ^ 32 ≤ length (bytes_of event) }
 {
     let bytes = bytes_in_reply(reply)?;
-    let places = places_of(bytes)?;
-    Some((bytes, places))
+    PackedRef::of(bytes)
 }
 
 /// The bytes of the event that a reply has alone. The flag before it has two bytes, and its tag has one.

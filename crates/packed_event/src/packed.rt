@@ -1,23 +1,19 @@
 //! Events that are kept as their bytes.
 
-ghost use Rattle.std.specs.Prelude.{◌≡◌, ◌↔◌, ℕ, ◌+◌, ◌^◌, ◌<◌, ◌≤◌, [], ◌∷◌, ◌++◌, length, option_copied, pos, IfOk, IfSome, IsOk, IsTrue, OnErr, OnOk};
-ghost use Rattle.std.specs.Option.{option_map};
-ghost use Rattle.std.specs.Str.{IsUtf8};
+ghost use Rattle.std.specs.Prelude.{◌≡◌, ◌↔◌, ◌+◌, ◌^◌, ◌<◌, ◌≤◌, [], ◌∷◌, ◌++◌, length, option_copied, IfOk, IsOk, IsTrue, OnErr, OnOk};
 ghost use Rattle.list_laws.specs.Prefix.{IsPrefix};
 ghost use Rattle.ev_types.specs.Expiry.{is_expired, ends_key};
 ghost use Rattle.riemann_msg.specs.ReadBack.{IsWellFormedEvent};
 ghost use Rattle.riemann_msg.specs.Reply.{found};
 ghost use Rattle.riemann_msg.specs.Spelling.{event_content, repeated, spelled, spelling};
-ghost use Rattle.riemann_msg.specs.Value.{event_of};
-ghost use Rattle.packed_event.specs.Kept.{bytes_of, event_in, IsKept};
-ghost use Rattle.packed_event.specs.Packed.{IsPacked, LiesIn, text_at};
+ghost use Rattle.packed_event.specs.Kept.{bytes_of};
 
-use crate::places::{Places, Span};
+use crate::packed_ref::PackedRef;
+use crate::places::Places;
 use ev_types::{Blob, DEFAULT_TTL, Memory};
 use pb_wire::{PutBody, put_field, varint_len};
 use std::alloc::Global;
 use std::marker::Model;
-use std::str::from_utf8_unchecked;
 
 /// The number of a message's field that holds an event.
 const EVENTS: u32 = 6;
@@ -41,29 +37,34 @@ impl Model for PackedEvent {
 }
 
 impl PackedEvent {
-    /// The event of bytes that [`places_of`](crate::places_of) recognised, with the places that it gave.
-    pub fn from_bytes(alloc: Global, bytes: &[u8], places: Places) -> Result<PackedEvent, Memory>
-        requires packed { (now : ℕ) → IsPacked bytes.now places (event_of (pos now) bytes.now) }
-        requires few { length bytes.now < 2 ^ 32 }
-        ensures { IfOk result (λ event. (now : ℕ) → event ≡ event_of (pos now) bytes.now) }
+    /// An equal event, with its bytes in memory of its own.
+    pub fn copy_of(alloc: Global, event: &PackedRef<'_>) -> Result<PackedEvent, Memory>
+        ensures { IfOk result (λ packed. packed ≡ event.now) }
     {
-        let bytes = Vec::from_slice(alloc, bytes)?;
+        let bytes = Vec::from_slice(alloc, event.bytes())?;
+        let places = event.places();
         Ok(PackedEvent { bytes, places })
     }
 
-    /// Makes it the event of bytes that [`places_of`](crate::places_of) recognised, with the places that it gave. It
-    /// takes memory only if the bytes are more than those that it has. `Memory`: out of memory, and nothing has
-    /// changed.
-    pub fn copy_from(&mut self, bytes: &[u8], places: Places) -> Result<(), Memory>
-        requires packed { (now : ℕ) → IsPacked bytes.now places (event_of (pos now) bytes.now) }
-        requires few { length bytes.now < 2 ^ 32 }
-        ensures ok { OnOk result ((now : ℕ) → self.new ≡ event_of (pos now) bytes.now) }
+    /// Makes it an equal event. It takes memory only if the other's bytes are more than those that it has. `Memory`:
+    /// out of memory, and nothing has changed.
+    #[inline]
+    pub fn become_copy(&mut self, event: &PackedRef<'_>) -> Result<(), Memory>
+        ensures ok { OnOk result (self.new ≡ event.now) }
         ensures err { OnErr result (self.new ≡ self.old) }
-        ensures fits { length bytes.now ≤ length (bytes_of self.old) → IsOk result }
+        ensures fits { length (bytes_of event.now) ≤ length (bytes_of self.old) → IsOk result }
     {
-        overwrite(&mut self.bytes, bytes)?;
-        self.places = places;
+        overwrite(&mut self.bytes, event.bytes())?;
+        self.places = event.places();
         Ok(())
+    }
+
+    /// The same event, lent.
+    #[inline]
+    pub fn as_ref(&self) -> PackedRef<'_>
+        ensures { result ≡ self.now }
+    {
+        PackedRef::at(self.bytes.as_slice(), self.places)
     }
 
     /// The bytes that this server writes for it.
@@ -81,7 +82,7 @@ impl PackedEvent {
     pub fn host(&self) -> Option<&str>
         ensures { option_copied result ≡ self.now.host }
     {
-        text_in(self.bytes.as_slice(), self.places.host)
+        self.as_ref().host()
     }
 
     /// Its service.
@@ -89,7 +90,7 @@ impl PackedEvent {
     pub fn service(&self) -> Option<&str>
         ensures { option_copied result ≡ self.now.service }
     {
-        text_in(self.bytes.as_slice(), self.places.service)
+        self.as_ref().service()
     }
 
     /// When it was observed, in seconds since 1970.
@@ -163,15 +164,4 @@ fn overwrite(block: &mut Vec<u8>, bytes: &[u8]) -> Result<(), Memory>
     block.resize(bytes.len(), 0)?;
     block.copy_from_slice(bytes);
     Ok(())
-}
-
-/// The text at the span, if there is one.
-#[inline]
-fn text_in(bytes: &[u8], span: Option<Span>) -> Option<&str>
-    requires within { IfSome span (LiesIn bytes.now) }
-    requires utf8 { IfSome span (λ span. IsUtf8 (text_at bytes.now span)) }
-    ensures { option_copied result ≡ option_map (text_at bytes.now) span }
-{
-    let text = span?.of(bytes);
-    Some(unsafe { from_utf8_unchecked(text) })
 }

@@ -1,7 +1,8 @@
 //! Where the parts of an event are in its bytes.
 
-ghost use Rattle.std.specs.Prelude.{◌≡◌, ℕ, ◌^◌, ◌<◌, None, pos, length, IfSome, IsSome};
+ghost use Rattle.std.specs.Prelude.{◌≡◌, ℕ, ◌^◌, ◌<◌, None, option_copied, pos, length, IfSome, IsSome};
 ghost use Rattle.std.specs.Option.{option_map};
+ghost use Rattle.std.specs.Str.{IsUtf8};
 ghost use Rattle.ev_types.specs.declared.event.Event.{Event};
 ghost use Rattle.riemann_msg.specs.Fault.{event_fault};
 ghost use Rattle.riemann_msg.specs.ReadBack.{IsWellFormedEvent};
@@ -13,6 +14,7 @@ ghost use Rattle.packed_event.specs.Reading.{Gives, packed_in};
 use crate::names::names_at;
 use crate::numbers::{numbers_at, optional_ttl};
 use crate::repeated::{after_attributes, after_tags};
+use std::str::from_utf8_unchecked;
 
 /// Where a text is in the bytes of an event.
 #[derive(Clone, Copy, Debug, PartialEq, Eq)]
@@ -33,6 +35,17 @@ impl Span {
         let start = self.start as usize;
         &bytes[start..start + self.len as usize]
     }
+}
+
+/// The text at the span, if there is one.
+#[inline]
+pub(crate) fn text_in(bytes: &[u8], span: Option<Span>) -> Option<&str>
+    requires within { IfSome span (LiesIn bytes.now) }
+    requires utf8 { IfSome span (λ span. IsUtf8 (text_at bytes.now span)) }
+    ensures { option_copied result ≡ option_map (text_at bytes.now) span }
+{
+    let text = span?.of(bytes);
+    Some(unsafe { from_utf8_unchecked(text) })
 }
 
 /// Where the parts of an event are in its bytes, and what tells when it expires.

@@ -14,6 +14,7 @@ use crate::body::{after_tag, optional_text, owned, owned_option, text};
 use crate::names::{DESCRIPTION, HOST, SERVICE, STATE, required_time};
 use crate::numbers::{numbers_at, optional_ttl};
 use crate::packed::PackedEvent;
+use crate::packed_ref::PackedRef;
 use crate::repeated::{ATTRIBUTES, TAGS};
 use ev_types::{Attrs, Event, Memory, Tags, Text};
 use std::alloc::Global;
@@ -30,6 +31,16 @@ impl PackedEvent {
 
     /// Makes an event that owns its parts this one. It uses the memory of that event's lists. After `Memory` what is
     /// left in `event` is not specified.
+    pub fn unpack_into(&self, alloc: Global, event: &mut Event) -> Result<(), Memory>
+        ensures { OnOk result (event.new ≡ self.now) }
+    {
+        self.as_ref().unpack_into(alloc, event)
+    }
+}
+
+impl PackedRef<'_> {
+    /// Makes an event that owns its parts this one. It uses the memory of that event's lists, and takes none for a
+    /// text of at most 24 bytes. After `Memory` what is left in `event` is not specified.
     pub fn unpack_into(&self, alloc: Global, event: &mut Event) -> Result<(), Memory>
         ensures { OnOk result (event.new ≡ self.now) }
     {

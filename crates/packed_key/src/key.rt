@@ -1,12 +1,10 @@
-ghost use Rattle.std.specs.Prelude.{◌≡◌, ◌↔◌, ℕ, option_copied, option_map, pos, IfSome, IsTrue};
+ghost use Rattle.std.specs.Prelude.{◌≡◌, ◌↔◌, option_copied, IsTrue};
 ghost use Rattle.index_log.specs.IndexKey.{text_cmp};
 ghost use Rattle.key_map.specs.Keys.{key_cmp};
-ghost use Rattle.riemann_msg.specs.Value.{event_of};
-ghost use Rattle.packed_event.specs.Packed.{IsPacked, LiesIn, text_at};
 ghost use Rattle.packed_key.specs.Key.{hash_fed, key_hash, key_lent, key_of};
 
 use ev_types::{Event, Text};
-use packed_event::{PackedEvent, Places, Span};
+use packed_event::{PackedEvent, PackedRef};
 use std::cmp::Ordering;
 use std::hash::{FoldHasher, Hasher};
 
@@ -34,22 +32,17 @@ impl<'a> KeyRef<'a> {
     pub fn of_packed(event: &'a PackedEvent) -> KeyRef<'a>
         ensures { key_lent result ≡ key_of event.now }
     {
+        KeyRef::of_ref(&event.as_ref())
+    }
+
+    /// The key of an event whose bytes lie elsewhere.
+    #[inline]
+    pub fn of_ref(event: &PackedRef<'a>) -> KeyRef<'a>
+        ensures { key_lent result ≡ key_of event.now }
+    {
         KeyRef {
             host: bytes_of(event.host()),
             service: bytes_of(event.service()),
-        }
-    }
-
-    /// The key of the event of bytes that [`places_of`](packed_event::places_of) recognised, with the places that it
-    /// gave.
-    #[inline]
-    pub fn in_bytes(bytes: &'a [u8], places: Places) -> KeyRef<'a>
-        requires { (now : ℕ) → IsPacked bytes.now places (event_of (pos now) bytes.now) }
-        ensures { (now : ℕ) → key_lent result ≡ key_of (event_of (pos now) bytes.now) }
-    {
-        KeyRef {
-            host: at(bytes, places.host),
-            service: at(bytes, places.service),
         }
     }
 
@@ -101,18 +94,6 @@ fn bytes_of(text: Option<&str>) -> Option<&[u8]>
 {
     match text {
         Some(text) => Some(text.as_bytes()),
-        None => None,
-    }
-}
-
-/// The bytes at the span, if there is one.
-#[inline]
-fn at(bytes: &[u8], span: Option<Span>) -> Option<&[u8]>
-    requires { IfSome span (LiesIn bytes.now) }
-    ensures { option_copied result ≡ option_map (text_at bytes.now) span }
-{
-    match span {
-        Some(span) => Some(span.of(bytes)),
         None => None,
     }
 }

@@ -1,5 +1,5 @@
 //! The key of an event, lent from where it lies: in an event that owns its parts, in one that is kept as its bytes, and
-//! in bytes that are those of an event.
+//! in one whose bytes lie elsewhere.
 #![tactic(auto)]
 
 mod key;

@@ -252,16 +252,36 @@ turn_at zero records entry later begun are at = absurd (omega (arith, begun))
 turn_at (suc n) [] entry later begun are at = absurd (cc at)
 turn_at (suc n) (first ∷ records) entry later begun are at = passes_at is_turn n records entry later are at
 
+memory_what : (what : What) → is_memory_turn what ≡ true → what ≡ Memory
+memory_what Idle is = absurd (cc is)
+memory_what (Opened link) is = absurd (cc is)
+memory_what (Read link count) is = absurd (cc is)
+memory_what (Ended link) is = absurd (cc is)
+memory_what (Broken link) is = absurd (cc is)
+memory_what (Room link) is = absurd (cc is)
+memory_what Stopped is = absurd (cc is)
+memory_what Failed is = absurd (cc is)
+memory_what Memory is = refl
+
 memory_unrecorded : (what : What) → is_memory_turn what ≡ true → is_recorded what ≡ false
-memory_unrecorded Idle is = absurd (cc is)
-memory_unrecorded (Opened link) is = absurd (cc is)
-memory_unrecorded (Read link count) is = absurd (cc is)
-memory_unrecorded (Ended link) is = absurd (cc is)
-memory_unrecorded (Broken link) is = absurd (cc is)
-memory_unrecorded (Room link) is = absurd (cc is)
-memory_unrecorded Stopped is = absurd (cc is)
-memory_unrecorded Failed is = absurd (cc is)
-memory_unrecorded Memory is = refl
+memory_unrecorded what is = ap is_recorded (memory_what what is)
+
+-- a turn that was given again has a record, or memory ran out
+pub again_turn : (old new : Seen) (was is : Progress) (buf : List ℕ) (turn : Turn) → is_over was ≡ false
+    → GivesAgain old new was is buf turn → (turn.what ≡ Memory) ⊎ (is_recorded turn.what ≡ true)
+again_turn old new was is buf turn left gives = by_memory (is_memory_turn turn.what) refl
+  where
+    recorded : is_memory_turn turn.what ≡ false → is_recorded turn.what ≡ true
+    recorded memory =
+        let less = leb-false (length was.records) was.given left in
+        let at = some_left was.given was.records (omega (arith, less)) in
+        let given = (gives.gives memory at.0 at.1 at.2).0 in
+        ap (λ (turn : Turn). is_recorded turn.what) given.turn_is ∙ again_recorded at.0.event
+
+    by_memory : (memory : Bool) → is_memory_turn turn.what ≡ memory
+        → (turn.what ≡ Memory) ⊎ (is_recorded turn.what ≡ true)
+    by_memory true memory = inl (memory_what turn.what memory)
+    by_memory false memory = inr (recorded memory)
 
 pub splits_again : (old new : Seen) (was is : Progress) (wants : List Want) (buf : List ℕ) (turn : Turn)
     (calls calls' later : List Entry) → Splits was calls later → calls' ≡ calls ++ next_entries wants buf turn

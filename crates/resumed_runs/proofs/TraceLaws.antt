@@ -1,13 +1,14 @@
 -- What became of the journal and of the links after one call more.
-use Rattle.std.proofs.Common.{◌≡◌, ℕ, Bool, true, false, List, [], ◌∷◌, ◌++◌, ◌<◌, length, refl, sym, ◌∙◌, ap, subst}
-use Rattle.std.proofs.Common.{arith}
+use Rattle.std.proofs.Common.{◌≡◌, inl, inr, ℕ, Bool, true, false, List, [], ◌∷◌, ◌++◌, ◌<◌, length, refl, sym, ◌∙◌, ap}
+use Rattle.std.proofs.Common.{arith, subst}
 use Rattle.std.proofs.lemmas.Bool.{false_from_ne_true, leb-true}
 use Rattle.std.specs.Prelude.{Option, Some}
 use Rattle.journal_format.specs.declared.turn_record.Summary.{Summary}
 use Rattle.journal_format.specs.declared.turn_record.TurnRecord.{TurnRecord}
-use Rattle.journal_links.specs.Steps.{CloseOf, ListenOf, NextOf, Progress, SendOf, close_again, close_passed, is_over}
-use Rattle.journal_links.specs.Steps.{last_secs, listen_again, listen_first, listen_unasked, next_again, next_broken}
-use Rattle.journal_links.specs.Steps.{next_inner, next_unasked, send_again, send_memory, send_passed}
+use Rattle.journal_links.specs.Steps.{CloseOf, GivesAgain, ListenOf, NextOf, Progress, SendOf, close_again}
+use Rattle.journal_links.specs.Steps.{close_passed, is_over, last_secs, listen_again, listen_first, listen_unasked}
+use Rattle.journal_links.specs.Steps.{next_again, next_broken, next_inner, next_unasked, send_again, send_memory}
+use Rattle.journal_links.specs.Steps.{send_passed}
 use Rattle.ports.specs.Calls.{AddsCalls, LinksReport}
 use Rattle.ports.specs.Links.{listen_entries, next_entries, send_entries}
 use Rattle.ports.specs.declared.entry.Entry.{Entry}
@@ -38,8 +39,8 @@ use Rattle.resumed_runs.specs.Asking.{listens_again, none_again, none_made, one_
 use Rattle.resumed_runs.specs.Asking.{sends_again}
 use Rattle.resumed_runs.specs.Making.{State, resuming, unresumed}
 use Rattle.resumed_runs.proofs.OwnLaws.{broken_at, keeps_own}
-use Rattle.resumed_runs.proofs.SplitLaws.{Splits, splits_after, splits_again, splits_begun, splits_listen}
-use Rattle.resumed_runs.proofs.SplitLaws.{splits_still}
+use Rattle.resumed_runs.proofs.SplitLaws.{Splits, again_turn, splits_after, splits_again, splits_begun}
+use Rattle.resumed_runs.proofs.SplitLaws.{splits_listen, splits_still}
 use Rattle.resumed_runs.proofs.StepLaws.{AsksOnce, asks_none, close_asks, listen_asks, memory_next, next_asks}
 use Rattle.resumed_runs.proofs.StepLaws.{send_asks, unsent_asks}
 
@@ -161,6 +162,13 @@ own_after lent records calls calls' old new was is wants buf turn link secs all 
     (subst (λ (report : LinksReport). AddsCalls old.inner report []) (sym takes.inner) (no_calls old.inner)) log
     keeps over same given
 
+turn_again : (old new : Seen) (was is : Progress) (wants : List Want) (buf : List ℕ) (turn : Turn)
+    → is_over was ≡ false → GivesAgain old new was is buf turn → IsAgain old.first (next_entries wants buf turn) []
+turn_again old new was is wants buf turn over gives = elim (again_turn old new was is buf turn over gives) [
+  | inl memory ↦ none_again (memory_next wants buf turn memory) refl
+  | inr recorded ↦ gives_again wants buf turn recorded refl refl
+]
+
 next_more : (lent : Lent) (records : List TurnRecord) (calls calls' : List Entry) (old new : Seen) (was is : Progress)
     (wants : List Want) (buf : List ℕ) (turn : Turn) → Traces old.first lent records calls old was
     → calls' ≡ calls ++ next_entries wants buf turn
@@ -176,7 +184,8 @@ next_more lent records calls calls' old new was is wants buf turn all log (next_
     (λ _. ap (λ (so_far : Noted). so_far.sends) same) stays.records stays.given)
 next_more lent records calls calls' old new was is wants buf turn all log (next_again over gives) spends =
     again_own old.first lent records calls calls' (next_entries wants buf turn) old new was is all
-    ((all.splits).none_later over) (gives_again wants buf turn refl refl) (gives.rests).inner log (gives.rests).sends
+    ((all.splits).none_later over) (turn_again old new was is wants buf turn over gives) (gives.rests).inner log
+    (gives.rests).sends
     (gives.rests).kept (λ was. absurd (cc (gives.unspent, was))) gives.records
     (splits_again old new was is wants buf turn calls calls' all.later all.splits log over gives)
 next_more lent records calls calls' old new was is wants buf turn all log (next_broken over broken) spends =

@@ -1,5 +1,5 @@
 -- Which calls were made of the inner links, for those of links that keep a journal.
-use Rattle.std.specs.Prelude.{◌≡◌, ℕ, List, [], ◌∷◌, ◌++◌, length, Some, None}
+use Rattle.std.specs.Prelude.{◌≡◌, ℕ, true, List, [], ◌∷◌, ◌++◌, length, Some, None}
 use Rattle.journal_format.specs.declared.turn_record.Summary.{Summary}
 use Rattle.journal_format.specs.declared.turn_record.TurnRecord.{TurnRecord}
 use Rattle.journal_links.specs.Steps.{HandsAgain, last_secs}
@@ -12,7 +12,7 @@ use Rattle.ports.specs.declared.links.SendAnswer.{SendAnswer}
 use Rattle.ports.specs.declared.links.Turn.{Turn}
 use Rattle.ports.specs.declared.links.Want.{Want}
 use Rattle.ports.specs.declared.links.What.TheVariants.{Broken}
-use Rattle.recorded_links.specs.Keeping.{HandsOut}
+use Rattle.recorded_links.specs.Keeping.{HandsOut, is_recorded}
 use Rattle.recorded_links.specs.Numbers.{inner_number}
 use Rattle.recorded_links.specs.Noting.{noted}
 use Rattle.recorded_runs.specs.Passing.{IsPassed}
@@ -29,8 +29,8 @@ pub data IsAgain (first : ℕ) (made asked : List Entry) : Type 0 where
   listens_again : (address : List ℕ) (given answer : ListenAnswer) → HandsAgain given answer
       → made ≡ listen_entries address answer → asked ≡ listen_entries address given → IsAgain first made asked
   -- of a turn of the journal, and of a send that is answered by it, the inner links get nothing
-  gives_again : (wants : List Want) (buf : List ℕ) (turn : Turn) → made ≡ next_entries wants buf turn → asked ≡ []
-      → IsAgain first made asked
+  gives_again : (wants : List Want) (buf : List ℕ) (turn : Turn) → is_recorded turn.what ≡ true
+      → made ≡ next_entries wants buf turn → asked ≡ [] → IsAgain first made asked
   sends_again : (link : ℕ) (bytes : List ℕ) (answer : SendAnswer) → made ≡ send_entries link bytes answer → asked ≡ []
       → IsAgain first made asked
   closes_again : (link : ℕ) → inner_number first link ≡ None → made ≡ Close link ∷ [] → asked ≡ []

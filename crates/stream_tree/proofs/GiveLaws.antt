@@ -1,6 +1,6 @@
 -- The last of the streams is an `index`, and all that it does with an event is to write it.
-use Rattle.std.proofs.Common.{◌≡◌, ℕ, zero, suc, ◌+◌, ◌<◌, ◌≤◌, List, [], ◌∷◌, ◌++◌, length, get_or, None, refl, sym}
-use Rattle.std.proofs.Common.{ap, ◌∙◌, subst, arith}
+use Rattle.std.proofs.Common.{◌≡◌, ℕ, zero, suc, ◌+◌, ◌<◌, ◌≤◌, Bool, true, false, List, [], ◌∷◌, ◌++◌, length, get_or}
+use Rattle.std.proofs.Common.{None, refl, sym, ap, ◌∙◌, subst, arith}
 use Rattle.std.proofs.Math.ListN.{set}
 use Rattle.std.proofs.lemmas.List.{set-get_or}
 use mathlib.Core.Bool.{true≢false}
@@ -12,16 +12,19 @@ use Rattle.step_count.specs.Count.{StepCount}
 use Rattle.regex.specs.declared.string.regex.Regex.{Regex}
 use Rattle.stream_plan.specs.declared.plan.Stream.{Stream, out-Stream}
 use Rattle.stream_plan.specs.Search.{opened}
-use Rattle.stream_plan.specs.Tree.{KindTree, Index, StreamTrees, stream, kind_tree, list_trees}
+use Rattle.stream_plan.specs.Tree.{KindTree, Index, StreamTree, StreamTrees, stream, none, also, kind_tree, list_trees}
+use Rattle.stream_plan.proofs.Trees.{stream_tree-opened}
 use Rattle.stream_meaning.specs.declared.entry.Entry.{Entry}
 use Rattle.stream_meaning.specs.declared.entry.Entry.TheVariants.{Item as In}
 use Rattle.stream_meaning.specs.History.{History, ◌▸◌}
+use Rattle.stream_meaning.specs.Outputs.{Put, plan_effects}
 use Rattle.stream_step.specs.declared.state.State.{State}
 use Rattle.stream_step.specs.declared.state.State.TheVariants as variant
 use Rattle.stream_step.specs.Step.{StateRepresents}
 use Rattle.stream_tree.specs.declared.forest.Node.{Node, out-Node}
-use Rattle.stream_tree.specs.Forest.{Below, node_below}
-use Rattle.stream_tree.specs.Running.{FirstRun, ForestRuns, StreamRuns}
+use Rattle.stream_tree.specs.Forest.{Below, node_below, ForestRepresents}
+use Rattle.stream_tree.specs.Running.{kind_of, FirstRun, ForestRuns, StreamRuns}
+use Rattle.stream_tree.specs.Unseen.{is_index, is_one_index}
 use Rattle.stream_tree.proofs.ForestLaws.{forest_begins, forest_more, forest_full}
 use Rattle.stream_step.specs.stream_states.Kept.{keeps}
 use Rattle.stream_tree.proofs.PerformLaws.{own_grew}
@@ -90,3 +93,50 @@ pub none_before : {G : Type 0} (patterns : List Regex) (start moment : ℕ) (x :
 none_before patterns start moment x a t streams first i only =
     subst (λ (n : ℕ). FirstRun patterns start moment a t a t x streams first n first) only
     (forest_begins patterns start moment x a t streams first)
+
+-- ---- the only stream is an `index`
+
+pub index_is : (kind : KindTree) → is_index kind ≡ true → kind ≡ Index
+index_is Index is = refl
+index_is kind is = cc
+
+opened_kind : (s : Stream) → kind_of (opened s) ≡ kind_tree (out-Stream s).kind
+unfolding opened
+opened_kind s = refl
+
+pub only_stream : (streams : List Stream) (s other : Stream) → length streams ≡ 1 → s ≡ get_or streams 0 other
+    → is_index (kind_tree (out-Stream s).kind) ≡ is_one_index (list_trees streams)
+only_stream [] s other one is = absurd (omega (arith, one))
+only_stream (first ∷ []) s other one is =
+    ap (λ (r : Stream). is_index (kind_tree (out-Stream r).kind)) is
+    ∙ ap is_index (sym (opened_kind first))
+    ∙ ap (λ (t : StreamTree). is_index (kind_of t)) (sym (stream_tree-opened first))
+only_stream (first ∷ second ∷ more) s other one is = absurd (omega (arith, one))
+
+pub other_streams : (streams : List Stream) → (length streams ≡ 1 → ⊥) → false ≡ is_one_index (list_trees streams)
+other_streams [] others = refl
+other_streams (first ∷ []) others = absurd (others refl)
+other_streams (first ∷ second ∷ more) others = refl
+
+-- whichever event comes, it is written, and nothing else is done
+pub one_index_writes : (plan : StreamTrees) (h : History) (event : Event) → is_one_index plan ≡ true
+    → plan_effects plan (h ▸ In (One event)) ≡ Put (Write event) ∷ []
+one_index_writes (also (stream Index children otherwise) none) h event is = refl
+one_index_writes (also only none) h event is = cc
+one_index_writes (also first (also second more)) h event is = cc
+one_index_writes none h event is = cc
+
+-- and the stream is as it was
+pub one_index_stays : (texts : List (List ℕ)) (plan : StreamTrees) (nodes : List Node) (h : History) (event : Event) →
+    is_one_index plan ≡ true → ForestRepresents texts plan nodes h →
+    ForestRepresents texts plan nodes (h ▸ In (One event))
+one_index_stays texts plan [] h event is represents = represents
+one_index_stays texts (also (stream Index children otherwise) none) (node ∷ []) h event is represents = (
+  (index_stays texts (out-Node node).state h (In (One event)) represents.0.0, represents.0.1),
+  represents.1,
+)
+one_index_stays texts (also (stream Index children otherwise) none) (node ∷ other ∷ nodes) h event is represents =
+    absurd represents.1
+one_index_stays texts (also only none) (node ∷ nodes) h event is represents = cc
+one_index_stays texts (also first (also second more)) (node ∷ nodes) h event is represents = cc
+one_index_stays texts none (node ∷ nodes) h event is represents = absurd represents

@@ -12,6 +12,7 @@ pub mod ReceivedLaws
 pub mod BelowLaws
 pub mod EnterLaws
 pub mod StreamLaws
+pub mod KnownLaws
 pub mod BareLaws
 pub mod ForestLaws
 pub mod BareLoop

@@ -1,13 +1,19 @@
--- The fork of a key, which is made where there is none.
-use Rattle.std.specs.Prelude.{◌≡◌, ℕ, ◌≤◌, true, false, eqb, List, Option}
+-- The fork of a key, which is made where there is none, and that of an event whose key is known.
+use Rattle.std.specs.Prelude.{◌≡◌, ℕ, ◌≤◌, true, false, eqb, List, Option, Some}
 use Rattle.std.specs.List.{AllByRecursion}
+use Rattle.ev_types.specs.declared.event.Event.{Event}
+use Rattle.ev_types.specs.declared.field.Field.{Field}
+use Rattle.ev_types.specs.declared.item.Item.TheVariants.{One}
 use Rattle.ev_types.specs.declared.value.Value.{Value}
-use Rattle.ev_types.specs.Key.{same_key}
+use Rattle.ev_types.specs.Key.{same_key, event_key}
 use Rattle.fork_by.specs.declared.table.ForkTable.{ForkTable}
-use Rattle.fork_by.specs.Table.{KeptFork, kept_forks, HasFork, IsTable}
-use Rattle.stream_plan.specs.Tree.{StreamTrees}
+use Rattle.fork_by.specs.Labels.{IsLive}
+use Rattle.fork_by.specs.Table.{KeptFork, fork_labels, kept_forks, kept_number, HasFork, IsTable}
+use Rattle.stream_plan.specs.Tree.{KindTree, By, StreamTrees}
 use Rattle.stream_meaning.specs.Branches.{with_key}
 use Rattle.stream_meaning.specs.Deadlines.{plan_deadline}
+use Rattle.stream_meaning.specs.declared.entry.Entry.{Entry}
+use Rattle.stream_meaning.specs.declared.entry.Entry.TheVariants.{Item as In}
 use Rattle.stream_meaning.specs.History.{History, begun, moment_of, TicksAlone}
 use Rattle.stream_meaning.specs.Laws.{is_among}
 use Rattle.stream_tree.specs.declared.forest.Forest.{Forest}
@@ -43,3 +49,14 @@ Finds streams first start now key forks forks' number =
     (is_among key keys ≡ false → TicksAlone (received key)) → begun (received key) ≡ start →
     ((other : List Value) → moment_of (received other) ≤ now) →
     FoundAt texts streams idle key now keys last received forks' number
+
+-- an event comes to a `by`, and the number is that of its key
+pub record IsKnown (kind : KindTree) (x : Entry) (forks : ForkTable Forest) (number : ℕ) : Type 0 where
+  pub fields : List Field
+  pub idle : Option ℕ
+  pub event : Event
+  pub is_by : kind ≡ By fields idle
+  pub comes : x ≡ In (One event)
+  pub live : IsLive number (fork_labels forks)
+  pub found : IsTable forks → kept_number (event_key event fields) (kept_forks forks) ≡ Some number
+  pub has : IsTable forks → HasFork number forks

@@ -4,3 +4,4 @@ pub mod Fresh
 pub mod Forks
 pub mod Running
 pub mod Tree
+pub mod Unseen

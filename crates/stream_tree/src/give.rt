@@ -1,13 +1,14 @@
 //! An event that comes to the streams by reference.
-ghost use Rattle.std.specs.Prelude.{◌≡◌, ◌≤◌, true, length, IsTrue, IfOk, OnOk, OnErr};
+ghost use Rattle.std.specs.Prelude.{◌≡◌, ◌≤◌, true, length, IfOk, OnOk, OnErr};
 ghost use Rattle.ev_types.specs.declared.event.Event.{Event as StoredEvent};
 ghost use Rattle.ev_types.specs.declared.item.Item.TheVariants.{One};
 ghost use Rattle.list_laws.specs.Prefix.{IsPrefix};
 ghost use Rattle.stream_meaning.specs.declared.entry.Entry.TheVariants.{Item as In};
-ghost use Rattle.stream_plan.specs.Tree.{Index as index, kind_tree, list_trees};
+ghost use Rattle.stream_plan.specs.Tree.{kind_tree, list_trees};
 ghost use Rattle.stream_tree.specs.Forest.{nodes_of};
 ghost use Rattle.stream_tree.specs.Running.{FirstRun, ForestRuns, ForestStops};
 ghost use Rattle.stream_tree.specs.Tree.{with_write};
+ghost use Rattle.stream_tree.specs.Unseen.{is_index, is_one_index};
 
 use crate::forest::Forest;
 use crate::run::{run_first, run_forest};
@@ -61,9 +62,18 @@ pub(crate) fn offer_forest<G: Ledger>(
     Ok(true)
 }
 
+/// Whether the only stream is an `index`.
+#[inline]
+pub(crate) fn is_alone(streams: &[Stream]) -> bool
+    ensures { result ≡ is_one_index (list_trees streams.now) }
+{
+    streams.len() == 1 && is_index(&streams[0].kind)
+}
+
 /// Whether the kind is an `index`.
+#[inline]
 fn is_index(kind: &Kind) -> bool
-    ensures { IsTrue result → kind_tree kind.now ≡ index }
+    ensures { result ≡ is_index (kind_tree kind.now) }
 {
     matches!(kind, Kind::Index)
 }

@@ -4,19 +4,22 @@ ghost use Rattle.ev_types.specs.declared.value.Value.{Value};
 ghost use Rattle.fork_by.specs.declared.table.ForkTable.{ForkTable as Table};
 ghost use Rattle.list_laws.specs.Prefix.{IsPrefix};
 ghost use Rattle.stream_meaning.specs.Emission.{Fork};
+ghost use Rattle.stream_plan.specs.declared.plan.Stream.{out-Stream};
 ghost use Rattle.stream_plan.specs.Search.{opened};
-ghost use Rattle.stream_plan.specs.Tree.{list_trees};
+ghost use Rattle.stream_plan.specs.Tree.{kind_tree, list_trees};
+ghost use Rattle.stream_step.specs.declared.state.State.{State as NodeState};
 ghost use Rattle.stream_step.specs.Step.{branch_meant, branch_numbered, emission_meant, emissions_meant};
 ghost use Rattle.stream_tree.specs.declared.forest.Forest.{Forest as Nodes};
 ghost use Rattle.stream_tree.specs.declared.forest.Node.{out-Node};
 ghost use Rattle.stream_tree.specs.Ends.{idle_by};
 ghost use Rattle.stream_tree.specs.Forest.{nodes_of, below_of, node_below, first_of};
+ghost use Rattle.stream_tree.specs.Forks.{IsKnown};
 ghost use Rattle.stream_tree.specs.Running.{kind_of, children_of, FirstRun, ForestRuns, ForestStops, StreamRuns, StreamStops, ForkRuns, ForkStops, DueRuns, DueStops, TickRuns, TickStops, BranchRuns, BranchStops, EmissionsRun, EmissionsStop};
 
 use crate::bare::run_bare;
 use crate::ends::{drop_ended, due_before_end};
 use crate::forest::{Forest, Node, is_by};
-use crate::fork::find_fork;
+use crate::fork::{find_fork, known_fork};
 use crate::next::forest_due;
 use ev_types::{Emission, Emissions, Key, Memory, Outputs};
 use fork_by::ForkTable;
@@ -132,8 +135,8 @@ fn run_node<G: Ledger>(
     Ok(())
 }
 
-/// First the stream acts. A tick then goes on to each branch. At last each emission goes to its branch, before the next
-/// one does.
+/// An event whose fork is known comes to it. Else the stream acts first. A tick then goes on to each branch. At last
+/// each emission goes to its branch, before the next one does.
 #[cycle(run)]
 fn run_stream<G: Ledger>(
     alloc: Global,
@@ -156,6 +159,10 @@ fn run_stream<G: Ledger>(
         (opened stream.now) state.old (below_of children.old otherwise.old forks.old)) }
     ensures prefix { IsPrefix out.old out.new }
 {
+    if let Some(number) = known_fork(&stream.kind, forks, entry) {
+        run_known(alloc, stream, forks, number, entry, context, out, steps)?;
+        return Ok(());
+    }
     let passed = act(alloc, &stream.kind, state, entry, context, out)?;
     run_tick(
         alloc, stream, children, otherwise, forks, entry, context, out, steps,
@@ -314,6 +321,35 @@ fn run_key<G: Ledger>(
     ensures prefix { IsPrefix out.old out.new }
 {
     let number = find_fork(alloc, &stream.children, forks, key, first, context)?;
+    run_fork(alloc, stream, forks, number, entry, context, out, steps)?;
+    Ok(())
+}
+
+/// The event comes to the fork of the number, which is that of its key.
+#[cycle(run)]
+fn run_known<G: Ledger>(
+    alloc: Global,
+    stream: &Stream,
+    forks: &mut ForkTable<Forest>,
+    number: usize,
+    entry: &Entry,
+    context: &Context,
+    out: &mut Outputs,
+    steps: &mut Steps<G>,
+) -> Result<(), Memory>
+    requires { IsKnown (kind_tree (out-Stream stream.now).kind) entry.now forks.old number }
+    ensures runs { OnOk result ((state : NodeState) (children otherwise : Nodes) →
+        StreamRuns context.now.patterns.now context.now.start
+        context.now.moment out.old steps.old out.new steps.new entry.now
+        (opened stream.now) state (below_of children otherwise forks.old)
+        state (below_of children otherwise forks.new)) }
+    ensures stops { OnErr result ((state : NodeState) (children otherwise : Nodes) →
+        StreamStops context.now.patterns.now context.now.start
+        context.now.moment out.old steps.old out.new steps.new entry.now
+        (opened stream.now) state (below_of children otherwise forks.old)) }
+    ensures prefix { IsPrefix out.old out.new }
+{
+    forks.touch(number, context.moment);
     run_fork(alloc, stream, forks, number, entry, context, out, steps)?;
     Ok(())
 }

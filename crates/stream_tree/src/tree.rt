@@ -1,14 +1,17 @@
-ghost use Rattle.std.specs.Prelude.{◌≡◌, ◌≤◌, ◌+◌, ◌^◌, true, false, [], IfOk, OnOk, OnErr, IsErr, IsOk, IsTrue};
+ghost use Rattle.std.specs.Prelude.{◌≡◌, ◌≤◌, ◌+◌, ◌^◌, true, false, [], ◌∷◌, IfOk, OnOk, OnErr, IsErr, IsOk, IsTrue};
+ghost use Rattle.ev_types.specs.declared.event.Event.{Event as OneEvent};
 ghost use Rattle.ev_types.specs.declared.item.Item.TheVariants.{One};
+ghost use Rattle.ev_types.specs.declared.item.Output.TheVariants.{Write};
 ghost use Rattle.stream_meaning.specs.declared.entry.Entry.TheVariants.{Tick, Item as In};
 ghost use Rattle.stream_meaning.specs.History.{History, ◌▸◌, begun, moment_of, TicksAlone};
 ghost use Rattle.stream_meaning.specs.Deadlines.{plan_deadline};
-ghost use Rattle.stream_meaning.specs.Outputs.{plan_effects};
+ghost use Rattle.stream_meaning.specs.Outputs.{Put, plan_effects};
 ghost use Rattle.list_laws.specs.Prefix.{IsPrefix};
 ghost use Rattle.stream_tree.specs.Tree.{plan_of, is_poisoned, Represents, with_write, Performs, PerformsPart};
+ghost use Rattle.stream_tree.specs.Unseen.{is_one_index};
 
 use crate::forest::{Forest, fresh_forest};
-use crate::give::offer_forest;
+use crate::give::{is_alone, offer_forest};
 use crate::next::forest_due;
 use crate::run::run_forest;
 use ev_types::{Event, Memory, Outputs};
@@ -99,6 +102,32 @@ impl Tree {
         )?;
         self.poisoned = false;
         Ok(is_write_due)
+    }
+
+    /// An event comes to the streams, if none of them needs to see it. The answer is true where the only stream is an
+    /// `index`: the write of the event, whichever it is, is left to the caller, as [`Tree::offer`] may leave it. Else
+    /// the answer is false, and nothing has come to the streams. `Memory`: the tree is poisoned.
+    #[inline]
+    pub fn offer_unseen(&mut self) -> Result<bool, Memory>
+        ensures plan { plan_of self.new ≡ plan_of self.old }
+        ensures answer { IfOk result (λ is_write_due.
+            is_write_due ≡ is_one_index (plan_of self.old)) }
+        ensures effects { IfOk result (λ is_write_due. is_write_due ≡ true →
+            (h : History) (event : OneEvent) →
+            plan_effects (plan_of self.old) (h ▸ In (One event)) ≡ Put (Write event) ∷ []) }
+        ensures represents { IfOk result (λ is_write_due. is_write_due ≡ true →
+            (h : History) (event : OneEvent) → Represents self.old h →
+            Represents self.new (h ▸ In (One event))) }
+        ensures unchanged { IfOk result (λ is_write_due. is_write_due ≡ false →
+            self.new ≡ self.old) }
+        ensures poisoned { IsTrue (is_poisoned self.old) → IsErr result }
+        ensures err { OnErr result (IsTrue (is_poisoned self.new)) }
+        ensures sound { OnOk result (is_poisoned self.new ≡ false) }
+    {
+        if self.poisoned {
+            return Err(Memory);
+        }
+        Ok(is_alone(&self.plan.plan().streams))
     }
 
     /// One more second has passed, and it is the moment `now`. The outputs of the streams are appended to `out`. Only

@@ -6,6 +6,10 @@ mod fields;
 #[cfg(test)]
 mod keys;
 #[cfg(test)]
+mod lent;
+#[cfg(test)]
 mod packed;
 #[cfg(test)]
 mod rows;
+#[cfg(test)]
+mod rules;

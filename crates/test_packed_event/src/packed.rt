@@ -1,5 +1,5 @@
 use ev_types::{Blob, Event, Memory};
-use packed_event::{PackFault, PackedEvent, places_of};
+use packed_event::{PackFault, PackedEvent, PackedRef};
 use std::alloc::Global;
 use std::test::Fail;
 
@@ -13,19 +13,19 @@ pub(crate) const LAST: &[u8] = b"\x08\x80\x01\x12\x07expired\x1a\x01s";
 
 /// The event of these bytes, if they are those that this server writes.
 pub(crate) fn packed(alloc: Global, bytes: &[u8]) -> Result<Option<PackedEvent>, Memory> {
-    let Some(places) = places_of(bytes) else {
+    let Some(event) = PackedRef::of(bytes) else {
         return Ok(None);
     };
-    Ok(Some(PackedEvent::from_bytes(alloc, bytes, places)?))
+    Ok(Some(PackedEvent::copy_of(alloc, &event)?))
 }
 
 /// Whether the event is then that of these bytes.
 fn is_copied(event: &mut PackedEvent, bytes: &[u8]) -> Result<bool, Memory> {
-    let Some(places) = places_of(bytes) else {
+    let Some(other) = PackedRef::of(bytes) else {
         return Ok(false);
     };
-    event.copy_from(bytes, places)?;
-    Ok(event.bytes() == bytes)
+    event.become_copy(&other)?;
+    Ok(event.bytes() == bytes && event.as_ref().bytes() == bytes)
 }
 
 /// Whether no bytes represent the event.

@@ -1,7 +1,7 @@
 //! Forks by key.
 
 use crate::steps::{counter, is_counted};
-use ev_types::{Key, Value};
+use ev_types::{Event, Field, Fields, Key, Value};
 use fork_by::ForkTable;
 use list_laws::{Ids, Memory};
 use std::alloc::{AllocGlobal, Global};
@@ -40,6 +40,18 @@ fn is_found(
 ) -> Result<bool, Memory> {
     let key = key(alloc, number)?;
     Ok(table.find(&key) == fork)
+}
+
+/// Whether an event whose moment is the number is known to be of this fork, where the keys of forks are moments.
+fn is_known(
+    alloc: Global,
+    table: &ForkTable<u64>,
+    number: i64,
+    fork: Option<usize>,
+) -> Result<bool, Memory> {
+    let mut fields = Fields::fresh(alloc);
+    fields.push(alloc, Field::Time)?;
+    Ok(table.known(&Event::at(alloc, number), &fields) == fork)
 }
 
 /// Sets when the fork of the number is due, if there is such a fork.
@@ -138,6 +150,31 @@ fn ends_in_order(alloc: Global, table: &mut ForkTable<u64>) -> Result<bool, Memo
     Ok(ended && fourth == Some(second) && are_due(alloc, table, first, second, third)?)
 }
 
+/// Whether the forks of 8, -9 and 7 are known without their keys. The second ends, so that no event is known to be of
+/// it, and the third takes its place, so that it is known once it is noted there. A fork of -9 that is added then has
+/// the number of the second, and is known by it.
+fn are_known(alloc: Global, table: &mut ForkTable<u64>) -> Result<bool, Memory> {
+    let first = added(alloc, table, 8, 10, 3)?;
+    let second = added(alloc, table, -9, 20, 3)?;
+    let third = added(alloc, table, 7, 30, 3)?;
+    let known = is_known(alloc, table, 8, first)?
+        && is_known(alloc, table, -9, second)?
+        && is_known(alloc, table, 7, third)?
+        && is_known(alloc, table, 9, None)?;
+    let (Some(first), Some(third)) = (first, third) else {
+        return Ok(false);
+    };
+    touch(table, first, 4);
+    touch(table, third, 4);
+    table.drop_idle(3);
+    table.note(alloc, third);
+    let moved = is_known(alloc, table, 8, Some(first))?
+        && is_known(alloc, table, -9, None)?
+        && is_known(alloc, table, 7, Some(third))?;
+    let fourth = added(alloc, table, -9, 40, 5)?;
+    Ok(known && moved && fourth == second && is_known(alloc, table, -9, second)?)
+}
+
 /// Whether the forks are given at moment 7 in the order in which they were added.
 fn are_due(
     alloc: Global,
@@ -171,4 +208,10 @@ fn a_due_fork_is_given_once_and_entered_by_count(rt: HostRuntime) {
 fn a_fork_ends_and_its_number_is_used_again(rt: HostRuntime) {
     let mut table: ForkTable<u64> = ForkTable::fresh(rt.alloc());
     assert!(rt; matches!(ends_in_order(rt.alloc(), &mut table), Ok(true)));
+}
+
+#[test]
+fn a_fork_is_known_by_an_event_until_it_ends(rt: HostRuntime) {
+    let mut table: ForkTable<u64> = ForkTable::fresh(rt.alloc());
+    assert!(rt; matches!(are_known(rt.alloc(), &mut table), Ok(true)));
 }

@@ -1,4 +1,4 @@
-use Rattle.std.proofs.Common.{◌++◌, Some, arith, sym, ap, ◌∙◌, filter, take}
+use Rattle.std.proofs.Common.{◌++◌, arith, ap, ◌∙◌, filter, take}
 use Rattle.std.proofs.lemmas.List.{length-take-le}
 use Rattle.pred_eval.specs.Truth.{holds}
 use Rattle.live_index.specs.Index.{events_lent}
@@ -18,11 +18,11 @@ loop-number-preserved g c =
       same = c.find_one.ensures.same ∙ before.same;
       found =
           copied_on test (holds c.loop-number.pred) c.args.events.now.values c.args.numbers.now i
-          c.event.result.now
+          c.read-event.result.now
           (events_lent c.args.found.now.items) (events_lent c.loop-number.found.items)
           (events_lent c.find_one.new.found.items) (ap holds before.same)
           before.found c.in_ok-find_one.ensures.ok c.loop-number-test.true
-          (c.read-event.ensures.value ∙ ap Some (sym c.event.ensures));
+          c.read-event.ensures.value;
       few =
           few_on test c.args.events.now.values c.args.numbers.now i c.args.limit c.loop-number-test.true
           (omega (arith, before.few, since, c.len.ensures, c.len-before.ensures, c.if-len-before.false));

@@ -1,6 +1,7 @@
 use Rattle.std.proofs.Common.{arith, ap, refl, sym, ◌∙◌}
 use Rattle.pred_eval.specs.Truth.{holds}
-use Rattle.live_index.proofs.LengthLaws.{empty_len, measured_on}
+use Rattle.stored_event.proofs.ReplyLengths.{empty_len}
+use Rattle.live_index.proofs.LengthLaws.{measured_on}
 use Rattle.live_index.proofs.slots.found_len_at.Goals as goal
 
 pub loop-number-init : goal.loop-number-init

@@ -22,6 +22,7 @@ use Rattle.stream_tree.proofs.DueLoop.{loop_begins, loop_more, loop_ends, loop_s
 use Rattle.stream_tree.proofs.DueLoop.{items_past}
 use Rattle.stream_tree.proofs.EnterLaws.{idle_opened, fork_runs, fork_unset, fork_stops, fork_missing_runs, due_same}
 use Rattle.stream_tree.proofs.ForestLaws.{ForestRan, forest_more, forest_stops, forest_ends, forest_cut}
+use Rattle.stream_tree.proofs.KnownLaws.{known_runs, known_stops}
 use Rattle.stream_tree.proofs.PerformLaws.{rest_more, extends_none, extends_then}
 use Rattle.stream_tree.proofs.StreamLaws.{stream_runs, stream_act_stops, stream_tick_stops, stream_passed_stops}
 use Rattle.stream_tree.proofs.run.+run.Goals as goal
@@ -330,6 +331,22 @@ run_key-returns-in_err-run_fork-clause-stops g t c =
     c.args.out.now
     c.run_fork.new.out c.args.steps.now c.run_fork.new.steps c.in_err-run_fork.ensures.stops)
 
+pub run_known-returns-clause-runs : goal.run_known-returns-clause-runs
+run_known-returns-clause-runs g t c =
+    λ state children otherwise.
+    known_runs c.args.context.now.patterns.now c.args.context.now.start c.args.context.now.moment c.args.stream.now
+    c.args.entry.now c.args.forks.now c.touch.new.self c.args.number c.requires c.touch.ensures.touched
+    c.touch.ensures.table c.touch.ensures.has state children otherwise c.args.out.now c.run_fork.new.out
+    c.args.steps.now c.run_fork.new.steps c.run_fork.new.forks c.in_ok-run_fork.ensures.runs
+
+pub run_known-returns-in_err-run_fork-clause-stops : goal.run_known-returns-in_err-run_fork-clause-stops
+run_known-returns-in_err-run_fork-clause-stops g t c =
+    on_error c.from_residual.result (λ state children otherwise.
+    known_stops c.args.context.now.patterns.now c.args.context.now.start c.args.context.now.moment c.args.stream.now
+    c.args.entry.now c.args.forks.now c.touch.new.self c.args.number c.requires c.touch.ensures.touched
+    c.touch.ensures.table c.touch.ensures.has state children otherwise c.args.out.now c.run_fork.new.out
+    c.args.steps.now c.run_fork.new.steps c.in_err-run_fork.ensures.stops)
+
 pub run_passed-returns-in_ok-run_key-in-Keyed-Item-clause-runs :
     goal.run_passed-returns-in_ok-run_key-in-Keyed-Item-clause-runs
 run_passed-returns-in_ok-run_key-in-Keyed-Item-clause-runs g t c =
@@ -350,9 +367,14 @@ run_passed-returns-in_err-run_key-in-Keyed-Item-clause-stops g t c =
     (below_of c.args.children.now c.args.otherwise.now c.args.forks.now) c.in-Keyed-Item.is-0 c.in-Keyed-Item.is-1
     (c.in_err-run_key-in-Keyed-Item.ensures.stops c.args.children.now c.args.otherwise.now))
 
+pub run_stream-returns-in_err-run_known-clause-stops : goal.run_stream-returns-in_err-run_known-clause-stops
+run_stream-returns-in_err-run_known-clause-stops g t c =
+    on_error c.from_residual.result
+    (c.in_err-run_known.ensures.stops c.args.state.now c.args.children.now c.args.otherwise.now)
+
 pub run_stream-returns-in_err-passed-clause-stops : goal.run_stream-returns-in_err-passed-clause-stops
 run_stream-returns-in_err-passed-clause-stops g t c =
-    on_error c.from_residual.result
+    on_error c.from_residual-in_err-passed.result
     (stream_act_stops c.args.context.now.patterns.now c.args.context.now.start c.args.context.now.moment
     c.args.stream.now c.args.entry.now c.args.state.now c.args.out.now c.act.new.out c.args.steps.now
     (below_of c.args.children.now c.args.otherwise.now c.args.forks.now) c.act.ensures.prefix

@@ -41,7 +41,7 @@ returns-in_err-hear-clause-occurs g c count =
     let value = c.value_mut.result.now in
     let value' = c.hear.new.self in
     let table' : Kept HubLink = record hub.table { values = set hub.table.values place value' } in
-    let hub' : Hub = record hub { core = c.hear.new.core; table = table'; spent = c.hear.new.spent } in
+    let hub' : Hub = record hub { core = c.hear.new.core; table = table'; spare = c.hear.new.spare } in
     let patterns = g.P.Patterns.report c.args.patterns.now in
     let patterns' = g.P.Patterns.report c.hear.new.patterns in
     let before = reported c.args.notices.now c.args.steps.now.forks in
@@ -61,7 +61,7 @@ returns-in_err-settle-clause-occurs g c count =
     let value = c.value_mut.result.now in
     let value' = c.hear.new.self in
     let table' : Kept HubLink = record hub.table { values = set hub.table.values place value' } in
-    let hub' : Hub = record hub { core = c.hear.new.core; table = c.settle.new.table; spent = c.hear.new.spent } in
+    let hub' : Hub = record hub { core = c.hear.new.core; table = c.settle.new.table; spare = c.hear.new.spare } in
     let patterns = g.P.Patterns.report c.args.patterns.now in
     let patterns' = g.P.Patterns.report c.hear.new.patterns in
     let before = reported c.args.notices.now c.args.steps.now.forks in
@@ -72,7 +72,7 @@ returns-in_err-settle-clause-occurs g c count =
     (λ run settles. occurs_heard c.args.number count place c.args.piece.now hub c.hear.new.core value value' patterns
     patterns' before after c.in-Some.ensures
     (λ other. sym (get_or_read hub.table.values place value c.in-Some.ensures.within c.value_mut.ensures.value other))
-    c.settle.new.table c.hear.new.spent (Err p.0) run c.in_ok-hear.ensures.hears settles)
+    c.settle.new.table c.hear.new.spare (Err p.0) run c.in_ok-hear.ensures.hears settles)
     c.in_err-settle.ensures.settles)
 
 pub returns-clause-occurs : goal.returns-clause-occurs
@@ -82,7 +82,7 @@ returns-clause-occurs g c count =
     let value = c.value_mut.result.now in
     let value' = c.hear.new.self in
     let table' : Kept HubLink = record hub.table { values = set hub.table.values place value' } in
-    let hub' : Hub = record hub { core = c.hear.new.core; table = c.settle.new.table; spent = c.hear.new.spent } in
+    let hub' : Hub = record hub { core = c.hear.new.core; table = c.settle.new.table; spare = c.hear.new.spare } in
     let patterns = g.P.Patterns.report c.args.patterns.now in
     let patterns' = g.P.Patterns.report c.hear.new.patterns in
     let before = reported c.args.notices.now c.args.steps.now.forks in
@@ -93,5 +93,5 @@ returns-clause-occurs g c count =
     (λ run settles. occurs_heard c.args.number count place c.args.piece.now hub c.hear.new.core value value' patterns
     patterns' before after c.in-Some.ensures
     (λ other. sym (get_or_read hub.table.values place value c.in-Some.ensures.within c.value_mut.ensures.value other))
-    c.settle.new.table c.hear.new.spent (Ok tt) run c.in_ok-hear.ensures.hears settles)
+    c.settle.new.table c.hear.new.spare (Ok tt) run c.in_ok-hear.ensures.hears settles)
     c.in_ok-settle.ensures.settles

@@ -5,7 +5,7 @@ use Rattle.live_index.proofs.TakeLaws.{taking-start}
 use Rattle.live_index.proofs.slots.Slots.take_all.Goals as goal
 
 pub loop-number-init : goal.loop-number-init
-loop-number-init c = record {
+loop-number-init g c = record {
   linked = c.requires.linked;
   counted = c.requires.counted;
   due = refl;
@@ -15,7 +15,7 @@ loop-number-init c = record {
 }
 
 pub loop-number-preserved : goal.loop-number-preserved
-loop-number-preserved c =
+loop-number-preserved g c =
     let slots = c.args.self.now in
     let numbers = c.args.numbers.now in
     let i = c.loop-number.number-index in

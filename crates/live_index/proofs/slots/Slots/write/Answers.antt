@@ -6,7 +6,7 @@ use Rattle.live_index.proofs.SlotsLaws.{key-is}
 use Rattle.live_index.proofs.slots.Slots.write.Goals as goal
 
 pub returns-then-ends_key-clause-puts : goal.returns-then-ends_key-clause-puts
-returns-then-ends_key-clause-puts c =
+returns-then-ends_key-clause-puts g c =
     let slot : slot_of c.args.event.now ≡ None =
     ap (λ ends. cond ends None (Some c.args.event.now)) (sym c.ends_key.ensures ∙ c.if-ends_key.true) in
     subst
@@ -20,7 +20,7 @@ returns-then-ends_key-clause-puts c =
     c.end.ensures.puts)
 
 pub returns-clause-puts : goal.returns-clause-puts
-returns-clause-puts c =
+returns-clause-puts g c =
     let slot : slot_of c.args.event.now ≡ Some c.args.event.now =
     ap (λ ends. cond ends None (Some c.args.event.now)) (sym c.ends_key.ensures ∙ c.if-ends_key.false) in
     subst

@@ -1,0 +1,2 @@
+pub mod ReplyLengths
+pub mod ReplySpellings

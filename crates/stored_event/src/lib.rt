@@ -1,0 +1,12 @@
+//! Events in an index: each owns its parts, or is kept as its bytes.
+#![tactic(auto)]
+
+mod form;
+mod measured;
+mod replies;
+mod stored;
+
+pub use form::EventForm;
+pub use measured::{EMPTY_REPLY, MeasuredEvent};
+pub use replies::{found_len, write_lent};
+pub use stored::Stored;
