@@ -1,6 +1,6 @@
 -- An event is read as what it spells, with the places of its parts.
-use Rattle.std.proofs.Common.{◌≡◌, ℕ, ◌^◌, ◌<◌, List, [], ◌∷◌, ◌++◌, length, Option, Some, ℤ, refl, ap, subst, ◌∙◌}
-use Rattle.std.proofs.Common.{length-append, arith}
+use Rattle.std.proofs.Common.{◌≡◌, ℕ, ◌-◌, ◌^◌, ◌<◌, List, [], ◌∷◌, ◌++◌, length, Option, Some, ℤ, refl, ap, subst, ◌∙◌}
+use Rattle.std.proofs.Common.{◌≤◌, drop, sym, length-append, arith}
 use Rattle.std.specs.Prelude.{FitsSigned, IfSome}
 use Rattle.std.specs.Int.{w32, w64, to_le_bytes}
 use Rattle.std.specs.Option.{option_map}
@@ -10,6 +10,7 @@ use Rattle.ev_types.specs.declared.event.Attr.{Attr}
 use Rattle.ev_types.specs.declared.event.Event.{Event}
 use Rattle.riemann_msg.specs.ReadBack.{IsWellFormedAttribute, IsWellFormedEvent}
 use Rattle.riemann_msg.specs.Ttl.{IsSpellableTtl}
+use Rattle.packed_event.specs.Kept.{tags_start}
 use Rattle.packed_event.specs.Packed.{LiesIn, text_at}
 use Rattle.packed_event.specs.Reading.{◌>>=◌, NamesRead, NumbersRead, at_end, attribute_part, event_read, int64_part}
 use Rattle.packed_event.specs.Reading.{micros_part, names_part, number_part, numbers_part, optional, packed_in}
@@ -19,7 +20,7 @@ use Rattle.packed_event.proofs.Attributes.{attribute_body, attribute_is_part}
 use Rattle.packed_event.proofs.Bodies.{IsIn, counted_text, int64_is_part, int64_text, micros_is_part, number_is_part}
 use Rattle.packed_event.proofs.Bodies.{sint64_is_part, sint64_text, text_is_part, ttl_is_part, ttl_text, wide32, wide64}
 use Rattle.packed_event.proofs.Parts.{IsBytes, IsBytes-rest, bind_some, some_is, read_as}
-use Rattle.packed_event.proofs.Spans.{Ends, ends_then, optional_text_is, optional_within}
+use Rattle.packed_event.proofs.Spans.{Ends, ends_then, optional_text_is, optional_within, rest_is}
 use Rattle.packed_event.proofs.Stages.{Follows, at_end_sound, optional_follows, optional_sound, optional_text}
 use Rattle.packed_event.proofs.Stages.{optional_whole, repeated_follows, repeated_sound, repeated_text, repeated_whole}
 use Rattle.packed_event.proofs.Stages.{required_sound, required_whole}
@@ -30,8 +31,8 @@ MaybeText = Option (List ℕ)
 
 -- ---- the time and the texts, step by step
 
-abbrev names_made : ℕ → ℤ → MaybeText → MaybeText → List ℕ → MaybeText → List ℕ → MaybeText → NamesRead
-names_made total time state service after_service host after_host description = record {
+abbrev names_made : ℕ → ℤ → MaybeText → MaybeText → List ℕ → MaybeText → List ℕ → MaybeText → List ℕ → NamesRead
+names_made total time state service after_service host after_host description rest = record {
   time = time;
   state = state;
   service = service;
@@ -39,12 +40,13 @@ names_made total time state service after_service host after_host description = 
   host = host;
   host_span = span_before total host after_host;
   description = description;
+  tags = total - length rest;
 }
 
 abbrev step4 : ℕ → ℤ → MaybeText → MaybeText → List ℕ → MaybeText × List ℕ → Option (NamesRead × List ℕ)
 step4 total time state service after_service host = optional 42 text_part host.1
     >>= λ (description : MaybeText × List ℕ).
-    read_as (names_made total time state service after_service host.0 host.1 description.0) description.1
+    read_as (names_made total time state service after_service host.0 host.1 description.0 description.1) description.1
 
 abbrev step3 : ℕ → ℤ → MaybeText → MaybeText × List ℕ → Option (NamesRead × List ℕ)
 step3 total time state service = optional 34 text_part service.1 >>= step4 total time state service.0 service.1
@@ -58,6 +60,9 @@ step1 total time = optional 18 text_part time.1 >>= step2 total time.0
 abbrev names_of : NamesRead → List ℕ → List ℕ
 names_of names rest = names_text names.time names.state names.service names.host names.description rest
 
+less_left : (n some : ℕ) → n - some ≤ n
+less_left n some = omega arith
+
 record NamesSound (bytes : List ℕ) (read : NamesRead × List ℕ) : Type 0 where
   parts : bytes ≡ names_of read.0 read.1
   fits : IsBytes read.1
@@ -70,6 +75,8 @@ record NamesSound (bytes : List ℕ) (read : NamesRead × List ℕ) : Type 0 whe
   host_span : option_map (text_at bytes) read.0.host_span ≡ read.0.host
   service_within : IfSome read.0.service_span (LiesIn bytes)
   host_within : IfSome read.0.host_span (LiesIn bytes)
+  tags_at : drop read.0.tags bytes ≡ read.1
+  tags_within : read.0.tags ≤ length bytes
 
 text_sound : (tag : ℕ) (bytes : List ℕ) (read : MaybeText × List ℕ) → IsBytes bytes → optional tag text_part bytes
     ≡ Some read
@@ -88,7 +95,7 @@ names_sound bytes read fits e =
     let f =
     bind_some (optional 42 text_part d.0.1)
     (λ (description : MaybeText × List ℕ).
-    read_as (names_made n a.0.0 b.0.0 c.0.0 c.0.1 d.0.0 d.0.1 description.0) description.1) read d.2 in
+    read_as (names_made n a.0.0 b.0.0 c.0.0 c.0.1 d.0.0 d.0.1 description.0 description.1) description.1) read d.2 in
     let time = required_sound int64_part int64_text (FitsSigned w64) int64_is_part 8 bytes a.0 fits a.1 in
     let fits1 : IsBytes a.0.1 = IsBytes-rest bytes (8 ∷ int64_text a.0.0) a.0.1 time.0 fits in
     let state = text_sound 18 a.0.1 b.0 fits1 b.1 in
@@ -102,7 +109,10 @@ names_sound bytes read fits e =
     let ends1 : Ends bytes a.0.1 = (8 ∷ int64_text a.0.0, time.0) in
     let ends2 : Ends bytes b.0.1 = ends_then bytes a.0.1 b.0.1 (optional_text 18 counted_text b.0.0) ends1 state.0 in
     let ends3 : Ends bytes c.0.1 = ends_then bytes b.0.1 c.0.1 (optional_text 26 counted_text c.0.0) ends2 service.0 in
-    let made : NamesRead = names_made n a.0.0 b.0.0 c.0.0 c.0.1 d.0.0 d.0.1 f.0.0 in
+    let ends4 : Ends bytes d.0.1 = ends_then bytes c.0.1 d.0.1 (optional_text 34 counted_text d.0.0) ends3 host.0 in
+    let ends5 : Ends bytes f.0.1 =
+    ends_then bytes d.0.1 f.0.1 (optional_text 42 counted_text f.0.0) ends4 description.0 in
+    let made : NamesRead = names_made n a.0.0 b.0.0 c.0.0 c.0.1 d.0.0 d.0.1 f.0.0 f.0.1 in
     let parts : bytes ≡ names_of made f.0.1 =
     time.0
     ∙ ap (λ (t : List ℕ). 8 ∷ (int64_text a.0.0 ++ t))
@@ -123,6 +133,8 @@ names_sound bytes read fits e =
       host_span = optional_text_is bytes c.0.1 34 d.0.0 d.0.1 ends3 host.0;
       service_within = optional_within bytes b.0.1 26 c.0.0 c.0.1 ends2 service.0;
       host_within = optional_within bytes c.0.1 34 d.0.0 d.0.1 ends3 host.0;
+      tags_at = rest_is bytes f.0.1 ends5;
+      tags_within = less_left n (length f.0.1);
     })
 
 short_rest : (text rest : List ℕ) → length (text ++ rest) < 2 ^ 64 → length rest < 2 ^ 64
@@ -135,7 +147,7 @@ names_whole : (total : ℕ) (time : ℤ) (state service host description : Maybe
     ≡ Some (
       names_made total time state service
           (optional_text 34 counted_text host ++ (optional_text 42 counted_text description ++ rest)) host
-          (optional_text 42 counted_text description ++ rest) description,
+          (optional_text 42 counted_text description ++ rest) description rest,
       rest,
     )
 unfolding names_part
@@ -267,6 +279,9 @@ numbers_whole time micros metric raw_d raw_f micros_is metric_is raw_d_is raw_f_
 
 -- ---- whole events
 
+abbrev some_bytes : List ℕ → Option (List ℕ)
+some_bytes bytes = Some bytes
+
 abbrev all4 : NamesRead → List (List ℕ) → Option ℕ → List Attr × List ℕ → Option (Places × Event)
 all4 names tags ttl attributes = numbers_part names.time attributes.1 >>= λ (numbers : NumbersRead × List ℕ).
     at_end (places_read names ttl, event_read names tags ttl attributes.0 numbers.0) numbers.1
@@ -280,6 +295,11 @@ all2 names tags = optional 69 ttl_part tags.1 >>= all3 names tags.0
 abbrev all1 : NamesRead × List ℕ → Option (Places × Event)
 all1 names = repeated 58 text_part names.1 >>= all2 names.0
 
+tags_begin : (bytes : List ℕ) (names : NamesRead × List ℕ) → names_part (length bytes) bytes ≡ Some names
+    → drop names.0.tags bytes ≡ names.1 → tags_start bytes ≡ Some (drop names.0.tags bytes)
+unfolding tags_start
+tags_begin bytes names read at = rw read (ap some_bytes (sym at))
+
 pub record EventSound (bytes : List ℕ) (read : Places × Event) : Type 0 where
   pub parts : bytes ≡ event_text read.1
   pub good : IsWellFormedEvent read.1
@@ -290,6 +310,8 @@ pub record EventSound (bytes : List ℕ) (read : Places × Event) : Type 0 where
   pub time : read.0.time ≡ read.1.time
   pub ttl : read.0.ttl ≡ read.1.ttl
   pub ends : read.0.ends_key ≡ ends_key read.1
+  pub tags : tags_start bytes ≡ Some (drop read.0.tags bytes)
+  pub tags_within : read.0.tags ≤ length bytes
 
 pub packed_sound : (bytes : List ℕ) (read : Places × Event) → IsBytes bytes → packed_in bytes ≡ Some read
     → EventSound bytes read
@@ -351,6 +373,8 @@ packed_sound bytes read fits e =
       time = refl;
       ttl = refl;
       ends = refl;
+      tags = tags_begin bytes a.0 a.1 names.tags_at;
+      tags_within = names.tags_within;
     })
 
 pub packed_whole : (event : Event) → IsWellFormedEvent event → length (event_text event) < 2 ^ 64
@@ -379,7 +403,7 @@ packed_whole event good short =
     let f2 : Follows 58 r2 = optional_follows 58 69 ttl_text event.ttl r3 (omega arith) f3 in
     let f1 : Follows 42 r1 = repeated_follows 42 58 counted_text event.tags r2 (omega arith) f2 in
     let names : NamesRead =
-    names_made n event.time event.state event.service d2 event.host d1 event.description in (
+    names_made n event.time event.state event.service d2 event.host d1 event.description r1 in (
       places_read names event.ttl,
       rw (
         names_whole n event.time event.state event.service event.host event.description r1 good.time good.state

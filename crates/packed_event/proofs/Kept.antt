@@ -35,22 +35,13 @@ pub read_again : (bytes : List ℕ) (event : Event) → bytes ≡ bytes_of event
 read_again bytes event same good few =
     ap event_in same ∙ event_again event good (subst (λ (t : List ℕ). length t < 2 ^ 32) same few)
 
--- they are kept, with its places
+-- bytes that are kept are those of their event, and the other way round
 pub kept_again : (bytes : List ℕ) (places : Places) (event : Event) → bytes ≡ bytes_of event
-    → IsPacked (bytes_of event) places event → length bytes < 2 ^ 32 → IsKept bytes places
-kept_again bytes places event same packed few =
-    let read = read_again bytes event same packed.well_formed few in
-    let here : IsPacked bytes places event =
-    subst (λ (t : List ℕ). IsPacked t places event) (sym same) packed in record {
-      packed = subst (λ (e : Event). IsPacked bytes places e) (sym read) here;
-      few = few;
-    }
+    → IsKept (bytes_of event) places → IsKept bytes places
+kept_again bytes places event same kept = subst (λ (t : List ℕ). IsKept t places) (sym same) kept
 
--- places in kept bytes are places in the bytes of their event
-pub packed_again : (bytes : List ℕ) (places : Places) → IsKept bytes places
-    → IsPacked (bytes_of (event_in bytes)) places (event_in bytes)
-packed_again bytes places kept =
-    subst (λ (t : List ℕ). IsPacked t places (event_in bytes)) kept.packed.spelled_as kept.packed
+pub kept_as : (bytes : List ℕ) (places : Places) → IsKept bytes places → IsKept (bytes_of (event_in bytes)) places
+kept_as bytes places kept = subst (λ (t : List ℕ). IsKept t places) kept.packed.spelled_as kept
 
 -- an event that was found in these bytes is the one whose bytes they are
 pub event_alone : (read : Option Event) (bytes : List ℕ) (event : Event)

@@ -2,6 +2,8 @@ pub mod Parts
 pub mod Varints
 pub mod Bodies
 pub mod Stages
+pub mod Ascii
+pub mod Digits
 pub mod Attributes
 pub mod Spans
 pub mod Texts
@@ -10,6 +12,7 @@ pub mod Events
 pub mod Recognised
 pub mod Loops
 pub mod Kept
+pub mod Loose
 pub mod Taken
 pub mod Unpacked
 pub mod Sought

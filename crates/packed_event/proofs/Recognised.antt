@@ -1,5 +1,6 @@
 -- Bytes that are recognised are those of the event that they are read as, and those of each event are recognised.
-use Rattle.std.proofs.Common.{◌≡◌, ℕ, ◌^◌, ◌<◌, List, length, Option, Some, None, pos, refl, sym, ap, subst, ◌∙◌, arith}
+use Rattle.std.proofs.Common.{◌≡◌, ℕ, ◌^◌, ◌<◌, ◌≤◌, List, drop, length, Option, Some, None, pos, refl, sym, ap, subst}
+use Rattle.std.proofs.Common.{◌∙◌, arith}
 use Rattle.std.specs.Prelude.{IfSome, IsSome}
 use Rattle.std.specs.Option.{option_map}
 use Rattle.ev_types.specs.declared.event.Event.{Event}
@@ -7,6 +8,7 @@ use Rattle.riemann_msg.specs.Fault.{event_fault}
 use Rattle.riemann_msg.specs.ReadBack.{IsWellFormedEvent}
 use Rattle.riemann_msg.specs.Spelling.{event_values, spelled}
 use Rattle.riemann_msg.specs.Value.{event_of}
+use Rattle.packed_event.specs.Kept.{IsKept, event_in, tags_start}
 use Rattle.packed_event.specs.Packed.{IsPacked, PackedEventsAreRead}
 use Rattle.packed_event.specs.Reading.{Gives, packed_in}
 use Rattle.packed_event.specs.declared.places.Places.{Places}
@@ -48,33 +50,56 @@ packed_from bytes read sound = record {
 record Found (bytes : List ℕ) (places : Places) : Type 0 where
   event : Event
   packed : IsPacked bytes places event
+  tags : tags_start bytes ≡ Some (drop places.tags bytes)
+  tags_within : places.tags ≤ length bytes
 
 found : (bytes : List ℕ) (places : Places) (read : Option (Places × Event)) → IsBytes bytes → packed_in bytes ≡ read
     → places_of_read read ≡ Some places → Found bytes places
 found bytes places None fits is e = absurd cc
 found bytes places (Some read) fits is e =
     subst (λ (p : Places). Found bytes p) (some_is read.0 places e)
-    (record { event = read.1; packed = packed_from bytes read (packed_sound bytes read fits is) })
+    (let sound = packed_sound bytes read fits is in record {
+      event = read.1;
+      packed = packed_from bytes read sound;
+      tags = sound.tags;
+      tags_within = sound.tags_within;
+    })
 
 found_by : (bytes : List ℕ) (places : Places) → IsBytes bytes → places_of_read (packed_in bytes) ≡ Some places
     → Found bytes places
 found_by bytes places fits e = found bytes places (packed_in bytes) fits refl e
 
-pub clean_by : (bytes : List ℕ) (result : Option Places) → IsBytes bytes → length bytes < 2 ^ 32
-    → Gives same result (places_of_read (packed_in bytes)) → IfSome result (λ places. event_fault bytes ≡ None)
-clean_by bytes None fits short given = tt
-clean_by bytes (Some places) fits short given =
-    let f = found_by bytes places fits given in
-    (packed_is_read 0 bytes places f.event f.packed short).0
+-- bytes that are kept have no fault, and their places are those in the event that they are read as at any moment
+pub clean_by : (bytes : List ℕ) (result : Option Places) → IfSome result (IsKept bytes)
+    → IfSome result (λ places. event_fault bytes ≡ None)
+clean_by bytes None kept = tt
+clean_by bytes (Some places) kept = (packed_is_read 0 bytes places (event_in bytes) kept.packed kept.few).0
 
-pub packed_by : (bytes : List ℕ) (result : Option Places) → IsBytes bytes → length bytes < 2 ^ 32
-    → Gives same result (places_of_read (packed_in bytes))
+pub packed_by : (bytes : List ℕ) (result : Option Places) → IfSome result (IsKept bytes)
     → IfSome result (λ places. (now : ℕ) → IsPacked bytes places (event_of (pos now) bytes))
-packed_by bytes None fits short given = tt
-packed_by bytes (Some places) fits short given =
-    let f = found_by bytes places fits given in
+packed_by bytes None kept = tt
+packed_by bytes (Some places) kept =
     λ now. subst (λ (e : Event). IsPacked bytes places e)
-    (sym (packed_is_read now bytes places f.event f.packed short).1) f.packed
+    (sym (packed_is_read now bytes places (event_in bytes) kept.packed kept.few).1) kept.packed
+
+pub few_by : (bytes : List ℕ) (result : Option Places) → IfSome result (IsKept bytes)
+    → IfSome result (λ places. length bytes < 2 ^ 32)
+few_by bytes None kept = tt
+few_by bytes (Some places) kept = kept.few
+
+pub kept_by : (bytes : List ℕ) (result : Option Places) → IsBytes bytes → length bytes < 2 ^ 32
+    → Gives same result (places_of_read (packed_in bytes)) → IfSome result (IsKept bytes)
+kept_by bytes None fits short given = tt
+kept_by bytes (Some places) fits short given =
+    let f = found_by bytes places fits given in record {
+      packed =
+          subst (λ (e : Event). IsPacked bytes places e)
+          (sym (packed_is_read 0 bytes places f.event f.packed short).1)
+          f.packed;
+      few = short;
+      tags = f.tags;
+      tags_within = f.tags_within;
+    }
 
 -- ---- what is written is recognised
 

@@ -8,7 +8,7 @@ use Rattle.std.proofs.lemmas.List.{reverse-append}
 use Rattle.std.proofs.lemmas.List.Folds.{list_any-append}
 use Rattle.ev_types.specs.Field.{attribute_text}
 use Rattle.ev_types.specs.declared.event.Attr.{Attr}
-use Rattle.packed_event.specs.Reading.{after_tag, attribute_part, repeated, text_part}
+use Rattle.packed_event.specs.Reading.{after_tag, attribute_part, bytes_part, repeated}
 use Rattle.packed_event.proofs.Parts.{done}
 use Rattle.packed_event.proofs.Taken.{Takes, takes_ends, takes_fails, takes_first, takes_more}
 
@@ -17,11 +17,11 @@ use Rattle.packed_event.proofs.Taken.{Takes, takes_ends, takes_fails, takes_firs
 -- the texts before the rest do not pass the test
 pub record Seeks (test : List ℕ → Bool) (tag : ℕ) (bytes rest : List ℕ) : Type 0 where
   pub front : List (List ℕ)
-  pub takes : Takes tag text_part bytes [] rest front
+  pub takes : Takes tag bytes_part bytes [] rest front
   pub none : list_any test front ≡ false
 
 pub seeks_first : (test : List ℕ → Bool) (tag : ℕ) (bytes : List ℕ) → Seeks test tag bytes bytes
-seeks_first test tag bytes = record { front = []; takes = takes_first tag text_part bytes []; none = refl }
+seeks_first test tag bytes = record { front = []; takes = takes_first tag bytes_part bytes []; none = refl }
 
 one_after : (test : List ℕ → Bool) (front : List (List ℕ)) (text : List ℕ) (b : Bool) → list_any test front ≡ false
     → test text ≡ b → list_any test (front ++ text ∷ []) ≡ b
@@ -29,36 +29,36 @@ one_after test front text true none is = list_any-append test front (text ∷ []
 one_after test front text false none is = list_any-append test front (text ∷ []) ∙ rw (none, is) refl
 
 pub seeks_more : (test : List ℕ → Bool) (tag : ℕ) (bytes rest item after text : List ℕ) → Seeks test tag bytes rest
-    → after_tag tag rest ≡ Some item → text_part item ≡ done (text, after) → length after ≤ length item
+    → after_tag tag rest ≡ Some item → bytes_part item ≡ done (text, after) → length after ≤ length item
     → test text ≡ false → Seeks test tag bytes after
 seeks_more test tag bytes rest item after text seeks tagged given less is = record {
   front = seeks.front ++ text ∷ [];
-  takes = takes_more tag text_part bytes [] rest item after text seeks.front seeks.takes tagged given less;
+  takes = takes_more tag bytes_part bytes [] rest item after text seeks.front seeks.takes tagged given less;
   none = one_after test seeks.front text false seeks.none is;
 }
 
 pub seeks_found : (test : List ℕ → Bool) (tag : ℕ) (bytes rest item after text : List ℕ) → Seeks test tag bytes rest
-    → after_tag tag rest ≡ Some item → text_part item ≡ done (text, after) → length after ≤ length item
-    → test text ≡ true → (read : List (List ℕ) × List ℕ) → repeated tag text_part bytes ≡ Some read
+    → after_tag tag rest ≡ Some item → bytes_part item ≡ done (text, after) → length after ≤ length item
+    → test text ≡ true → (read : List (List ℕ) × List ℕ) → repeated tag bytes_part bytes ≡ Some read
     → true ≡ list_any test read.0
 seeks_found test tag bytes rest item after text seeks tagged given less is read e =
-    let takes = takes_more tag text_part bytes [] rest item after text seeks.front seeks.takes tagged given less in
+    let takes = takes_more tag bytes_part bytes [] rest item after text seeks.front seeks.takes tagged given less in
     let left = takes.rests read.0 read.1 e in
     sym (ap (list_any test) left.whole ∙ list_any-append test (seeks.front ++ text ∷ []) left.more
     ∙ ap (λ b. b || list_any test left.more) (one_after test seeks.front text true seeks.none is))
 
 pub seeks_ends : (test : List ℕ → Bool) (tag : ℕ) (bytes rest : List ℕ) → Seeks test tag bytes rest
-    → after_tag tag rest ≡ None → (read : List (List ℕ) × List ℕ) → repeated tag text_part bytes ≡ Some read
+    → after_tag tag rest ≡ None → (read : List (List ℕ) × List ℕ) → repeated tag bytes_part bytes ≡ Some read
     → false ≡ list_any test read.0
 seeks_ends test tag bytes rest seeks other read e =
-    let all = takes_ends tag text_part bytes [] rest seeks.front seeks.takes other read e in
+    let all = takes_ends tag bytes_part bytes [] rest seeks.front seeks.takes other read e in
     sym seeks.none ∙ ap (list_any test) all.1
 
 pub seeks_fails : (test : List ℕ → Bool) (tag : ℕ) (bytes rest item : List ℕ) → Seeks test tag bytes rest
-    → after_tag tag rest ≡ Some item → text_part item ≡ None → (read : List (List ℕ) × List ℕ)
-    → repeated tag text_part bytes ≡ Some read → ⊥
+    → after_tag tag rest ≡ Some item → bytes_part item ≡ None → (read : List (List ℕ) × List ℕ)
+    → repeated tag bytes_part bytes ≡ Some read → ⊥
 seeks_fails test tag bytes rest item seeks tagged none read e =
-    takes_fails tag text_part bytes [] rest item seeks.front seeks.takes tagged none read e
+    takes_fails tag bytes_part bytes [] rest item seeks.front seeks.takes tagged none read e
 
 -- ---- the last attribute with a key
 

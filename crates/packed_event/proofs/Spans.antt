@@ -22,6 +22,14 @@ pub ends_then : (a b c text : List ℕ) → Ends a b → b ≡ text ++ c → End
 ends_then a b c text (before, is) more =
     (before ++ text, is ∙ ap (λ (t : List ℕ). before ++ t) more ∙ sym (append_assoc before text c))
 
+-- what the bytes end with begins that many bytes before their end
+pub rest_is : (bytes rest : List ℕ) → Ends bytes rest → drop (length bytes - length rest) bytes ≡ rest
+rest_is bytes rest (before, is) =
+    let first : ℕ = length bytes - length rest in
+    let all : length bytes ≡ length before + length rest = ap (length {A = ℕ}) is ∙ length-append before rest in
+    let start : length before ≡ first = omega (arith, all) in
+    ap (drop first) is ∙ drop_at before rest first start
+
 abbrev span_of : ℕ → List ℕ → List ℕ → Span
 span_of total text rest = record { start = total - (length text + length rest); len = length text }
 

@@ -1,12 +1,14 @@
 -- The parts that are unpacked one after the other are those of the event.
 use Rattle.std.proofs.Common.{◌≡◌, ℕ, ◌^◌, ◌<◌, List, ◌++◌, length, Option, Some, ℤ, pos, ap, subst, ◌∙◌, arith}
+use Rattle.std.specs.Int.{w32, w64}
 use Rattle.ev_types.specs.Set.{event_at}
 use Rattle.ev_types.specs.declared.event.Attr.{Attr}
 use Rattle.ev_types.specs.declared.event.Event.{Event}
 use Rattle.riemann_msg.specs.ReadBack.{IsWellFormedEvent}
 use Rattle.packed_event.specs.Kept.{bytes_of}
 use Rattle.packed_event.specs.Reading.{NamesRead, NumbersRead, attribute_part, event_read, int64_part, names_part}
-use Rattle.packed_event.specs.Reading.{numbers_part, optional, packed_in, repeated, required, text_part, ttl_part}
+use Rattle.packed_event.specs.Reading.{micros_part, number_part, numbers_part, optional, packed_in, repeated, required}
+use Rattle.packed_event.specs.Reading.{sint64_part, text_part, ttl_part}
 use Rattle.packed_event.specs.Unpacking.{with_names, with_numbers}
 use Rattle.packed_event.specs.declared.places.Places.{Places}
 use Rattle.packed_event.proofs.Events.{packed_whole}
@@ -123,4 +125,28 @@ event_stages bytes read e =
       attributes_read = d.1;
       numbers_are = f.1;
       event = ap (λ (r : Places × Event). r.1) last.0;
+    }
+
+pub record NumberStages (time : ℤ) (bytes : List ℕ) (read : NumbersRead × List ℕ) : Type 0 where
+  pub micros : Option ℤ × List ℕ
+  pub metric : Option ℤ × List ℕ
+  pub micros_read : optional 80 (micros_part time) bytes ≡ Some micros
+  pub metric_read : optional 104 sint64_part micros.1 ≡ Some metric
+  pub metric_is : metric.0 ≡ read.0.metric
+
+pub number_stages : (time : ℤ) (bytes : List ℕ) (read : NumbersRead × List ℕ) → numbers_part time bytes ≡ Some read
+    → NumberStages time bytes read
+unfolding numbers_part
+number_stages time bytes read e =
+    let a = bind_some (optional 80 (micros_part time) bytes) _ read e in
+    let b = bind_some (optional 104 sint64_part a.0.1) _ read a.2 in
+    let c = bind_some (optional 113 (number_part w64) b.0.1) _ read b.2 in
+    let d = bind_some (optional 125 (number_part w32) c.0.1) _ read c.2 in
+    let is = some_is {A = NumbersRead × List ℕ} _ read d.2 in
+    record {
+      micros = a.0;
+      metric = b.0;
+      micros_read = a.1;
+      metric_read = b.1;
+      metric_is = ap (λ (r : NumbersRead × List ℕ). r.0.metric) is;
     }

@@ -1,5 +1,5 @@
 -- Events that are kept as their bytes.
-use Rattle.std.specs.Prelude.{ℕ, ◌^◌, ◌<◌, ◌≤◌, List, length, pos, FitsSigned, IfSome}
+use Rattle.std.specs.Prelude.{◌≡◌, ℕ, ◌^◌, ◌<◌, ◌≤◌, List, drop, length, Option, Some, pos, FitsSigned, IfSome}
 use Rattle.std.specs.Int.{w64}
 use Rattle.std.specs.List.{AllByRecursion}
 use Rattle.std.specs.Str.{IsUtf8}
@@ -8,6 +8,7 @@ use Rattle.riemann_msg.specs.ReadBack.{IsWellFormedAttribute, IsWellFormedEvent}
 use Rattle.riemann_msg.specs.Spelling.{event_values, spelled}
 use Rattle.riemann_msg.specs.Value.{event_of}
 use Rattle.packed_event.specs.Packed.{IsPacked}
+use Rattle.packed_event.specs.Reading.{◌>>=◌, names_part}
 use Rattle.packed_event.specs.declared.places.Places.{Places}
 use Rattle.packed_event.specs.declared.pack.PackFault.{PackFault}
 use Rattle.packed_event.specs.declared.pack.PackFault.TheVariants.{Unspellable, TooLong, Memory}
@@ -20,10 +21,18 @@ bytes_of event = spelled (event_values event)
 abbrev pub event_in : List ℕ → Event
 event_in bytes = event_of (pos 0) bytes
 
+-- the bytes that begin with the tags, after the time and the texts at the start of an event
+unfoldable pub tags_start : List ℕ → Option (List ℕ)
+tags_start bytes = do
+  names ← names_part (length bytes) bytes
+  Some names.1
+
 -- the bytes are kept, with the places of the event's parts
 pub record IsKept (bytes : List ℕ) (places : Places) : Type 0 where
   pub packed : IsPacked bytes places (event_in bytes)
   pub few : length bytes < 2 ^ 32
+  pub tags : tags_start bytes ≡ Some (drop places.tags bytes)
+  pub tags_within : places.tags ≤ length bytes
 
 -- the event is not packed for this cause. Memory may run out at any time
 abbrev pub IsUnpackable : Event → PackFault → Type 0

@@ -142,7 +142,7 @@ abbrev pub span_before : ℕ → Option (List ℕ) → List ℕ → Option Span
 span_before total text rest =
     option_map (λ (bytes : List ℕ). record { start = total - (length bytes + length rest); len = length bytes }) text
 
--- the time and the texts of an event, and the spans of two
+-- the time and the texts of an event, the spans of two, and the place after them, where the tags begin
 pub record NamesRead : Type 0 where
   pub time : ℤ
   pub state : Option (List ℕ)
@@ -151,6 +151,7 @@ pub record NamesRead : Type 0 where
   pub host : Option (List ℕ)
   pub host_span : Option Span
   pub description : Option (List ℕ)
+  pub tags : ℕ
 
 unfoldable pub names_part : ℕ → List ℕ → Option (NamesRead × List ℕ)
 names_part total bytes = do
@@ -168,6 +169,7 @@ names_part total bytes = do
       host = host.0;
       host_span = span_before total host.0 host.1;
       description = description.0;
+      tags = total - length description.1;
     },
     description.1,
   )
@@ -180,6 +182,7 @@ names_seen read = (
     ends_key = is_text (codes "expired") read.0.state;
     service = read.0.service_span;
     host = read.0.host_span;
+    tags = read.0.tags;
   },
   read.1,
 )
@@ -222,6 +225,7 @@ places_read names ttl = record {
   time = names.time;
   ttl = ttl;
   ends_key = is_text (codes "expired") names.state;
+  tags = names.tags;
 }
 
 -- the event that all the bytes are, and the places of its parts

@@ -66,6 +66,7 @@ pub(crate) fn attribute_at(bytes: &[u8]) -> Option<(AttrParts<'_>, &[u8])>
 }
 
 /// The attribute whose bytes these are.
+#[inline(always)]
 fn attribute_in(bytes: &[u8]) -> Option<AttrParts<'_>>
     ensures reads { Gives attribute_read result (attribute_in bytes.now) }
     ensures well_formed { IfSome result (λ parts. IsWellFormedAttribute (attribute_read parts)) }

@@ -1,30 +1,45 @@
 //! The bodies of fields, each read at the start of bytes and given with the bytes after it.
 
-ghost use Rattle.std.specs.Prelude.{◌≡◌, ◌+◌, ◌<◌, ◌≤◌, length, IfOk, IfSome};
+ghost use Rattle.std.specs.Prelude.{◌≡◌, ◌+◌, ◌<◌, ◌≤◌, length, take, drop, IfOk, IfSome, IsTrue};
 ghost use Rattle.std.specs.Int.{w32, w64};
 ghost use Rattle.std.specs.Option.{option_map};
-ghost use Rattle.std.specs.Str.{IsUtf8, is_utf8};
+ghost use Rattle.std.specs.Str.{IsAscii, IsUtf8, is_utf8};
 ghost use Rattle.packed_event.specs.Reading.{Gives, after_tag, bytes_part, int64_part, number_part, optional, text_length, text_part, ttl_part};
 
-use crate::varint::varint;
+use crate::varint::{short_varint, varint};
 use ev_types::{Memory, Text};
 use riemann_msg::{bits_of_ttl, ttl_of_bits};
 use std::alloc::Global;
 use std::str::from_utf8_unchecked;
 
+/// The high bit of each byte.
+const HIGH_BITS: u64 = 0x8080_8080_8080_8080;
+
 /// Bytes after their length.
-#[tactic(auto, unfolding(crate::specs::Reading::bytes_part))]
 #[inline(always)]
 pub(crate) fn counted(bytes: &[u8]) -> Option<(&[u8], &[u8])>
     ensures reads { Gives (λ read. (read.0.now, read.1.now)) result (bytes_part bytes.now) }
     ensures within { IfSome result (λ read.
         length read.0.now + length read.1.now < length bytes.now) }
 {
-    let (size, rest) = varint(bytes)?;
-    if size > rest.len() as u64 {
+    let (len, rest) = length_at(bytes)?;
+    Some(rest.split_at(len))
+}
+
+/// The length that the bytes begin with, and the bytes after it. Those are at least as many.
+#[tactic(auto, unfolding(crate::specs::Reading::bytes_part))]
+#[inline(always)]
+fn length_at(bytes: &[u8]) -> Option<(usize, &[u8])>
+    ensures reads { Gives (λ read. (take read.0 read.1.now, drop read.0 read.1.now)) result
+        (bytes_part bytes.now) }
+    ensures enough { IfSome result (λ read. read.0 ≤ length read.1.now) }
+    ensures shorter { IfSome result (λ read. length read.1.now < length bytes.now) }
+{
+    let (len, rest) = short_varint(bytes)?;
+    if len > rest.len() as u64 {
         return None;
     }
-    Some(rest.split_at(size as usize))
+    Some((len as usize, rest))
 }
 
 /// Bytes after their length, if they are UTF-8.
@@ -36,15 +51,54 @@ pub(crate) fn text(bytes: &[u8]) -> Option<(&[u8], &[u8])>
         length read.0.now + length read.1.now < length bytes.now) }
     ensures utf8 { IfSome result (λ read. IsUtf8 read.0.now) }
 {
-    let (text, rest) = counted(bytes)?;
-    if !is_utf8(text) {
+    let (len, rest) = length_at(bytes)?;
+    if !begins_with_utf8(rest, len) {
         return None;
     }
-    Some((text, rest))
+    Some(rest.split_at(len))
+}
+
+/// Whether the first `len` bytes are UTF-8.
+#[inline(always)]
+fn begins_with_utf8(bytes: &[u8], len: usize) -> bool
+    requires { len ≤ length bytes.now }
+    ensures { result ≡ is_utf8 (take len bytes.now) }
+{
+    is_short_ascii(bytes, len) || is_utf8(&bytes[..len])
+}
+
+/// Whether the first `len` bytes are at most 16 and seen to be ASCII. Up to eight are read with the bytes after them.
+#[inline(always)]
+fn is_short_ascii(bytes: &[u8], len: usize) -> bool
+    requires { len ≤ length bytes.now }
+    ensures { IsTrue result → IsAscii (take len bytes.now) }
+{
+    if len <= 8 {
+        return match bytes.first_chunk::<8>() {
+            Some(eight) => are_ascii(eight),
+            None => false,
+        };
+    }
+    if len > 16 {
+        return false;
+    }
+    let text = &bytes[..len];
+    match (text.first_chunk::<8>(), text.last_chunk::<8>()) {
+        (Some(first), Some(last)) => are_ascii(first) & are_ascii(last),
+        _ => false,
+    }
+}
+
+/// Whether all eight bytes are ASCII.
+#[inline(always)]
+fn are_ascii(bytes: &[u8; 8]) -> bool
+    ensures { IsTrue result → IsAscii bytes.now }
+{
+    u64::from_le_bytes(*bytes) & HIGH_BITS == 0
 }
 
 // Most texts are ASCII, which is quicker to test for than UTF-8.
-#[inline(always)]
+#[inline(never)]
 fn is_utf8(bytes: &[u8]) -> bool
     ensures { result ≡ is_utf8 bytes.now }
 {
@@ -146,4 +200,20 @@ pub(crate) fn ttl(bytes: &[u8]) -> Option<(u32, &[u8])>
         return None;
     }
     Some((ttl, rest))
+}
+
+/// The bytes after the tag and their length, if the bytes begin with the tag. Otherwise none, and all the bytes.
+#[tactic(auto, unfolding(crate::specs::Reading::optional))]
+#[inline(always)]
+pub(crate) fn optional_counted(tag: u8, bytes: &[u8]) -> Option<(Option<&[u8]>, &[u8])>
+    ensures { Gives (λ read. (option_map (λ text. text.now) read.0, read.1.now)) result
+        (optional tag bytes_part bytes.now) }
+{
+    match bytes {
+        [first, rest @ ..] if *first == tag => {
+            let (text, rest) = counted(rest)?;
+            Some((Some(text), rest))
+        }
+        _ => Some((None, bytes)),
+    }
 }

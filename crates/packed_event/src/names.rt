@@ -26,10 +26,13 @@ pub(crate) struct Names {
     pub(crate) ends_key: bool,
     pub(crate) service: Option<Span>,
     pub(crate) host: Option<Span>,
+    /// The place after them.
+    pub(crate) tags: u32,
 }
 
 /// The time and the texts at the start of an event, and the bytes after them.
 #[tactic(auto, unfolding(crate::specs::Reading::names_part))]
+#[inline(always)]
 pub(crate) fn names_at(bytes: &[u8]) -> Option<(Names, &[u8])>
     requires small { length bytes.now < 2 ^ 32 }
     ensures { Gives (λ read. (read.0, read.1.now)) result
@@ -47,6 +50,7 @@ pub(crate) fn names_at(bytes: &[u8]) -> Option<(Names, &[u8])>
         ends_key: is_expired(state),
         service,
         host,
+        tags: (bytes.len() - rest.len()) as u32,
     };
     Some((names, rest))
 }

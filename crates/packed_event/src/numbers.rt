@@ -2,8 +2,9 @@
 
 ghost use Rattle.std.specs.Prelude.{◌≡◌};
 ghost use Rattle.std.specs.Int.{w32, w64};
+ghost use Rattle.std.specs.Option.{option_map};
 ghost use Rattle.riemann_msg.specs.Value.{unzigzag};
-ghost use Rattle.packed_event.specs.Reading.{Gives, micros_part, number_part, numbers_part, optional, sint64_part, ttl_part};
+ghost use Rattle.packed_event.specs.Reading.{Gives, int64_part, micros_part, number_part, numbers_part, optional, sint64_part, ttl_part};
 ghost use Rattle.packed_event.specs.Unpacking.{numbers_read};
 
 use crate::body::{eight, four, int64, ttl};
@@ -32,6 +33,22 @@ pub(crate) fn optional_ttl(bytes: &[u8]) -> Option<(Option<u32>, &[u8])>
             Some((Some(ttl), rest))
         }
         _ => Some((None, bytes)),
+    }
+}
+
+/// The bytes after the ttl, if the bytes begin with one, and else all of them. It is not tested.
+#[tactic(auto, unfolding(crate::specs::Reading::optional))]
+#[inline(always)]
+pub(crate) fn after_ttl(bytes: &[u8]) -> Option<&[u8]>
+    ensures { Gives (λ rest. rest.now) result
+        (option_map (λ read. read.1) (optional 69 (number_part w32) bytes.now)) }
+{
+    match bytes {
+        [TTL, rest @ ..] => {
+            let (_, rest) = four(rest)?;
+            Some(rest)
+        }
+        _ => Some(bytes),
     }
 }
 
@@ -81,10 +98,26 @@ fn optional_micros(time: i64, bytes: &[u8]) -> Option<(Option<i64>, &[u8])>
     Some((Some(micros), rest))
 }
 
+/// The bytes after the time in microseconds, if the bytes begin with it, and else all of them. It is not tested.
+#[tactic(auto, unfolding(crate::specs::Reading::optional))]
+#[inline(always)]
+pub(crate) fn after_micros(bytes: &[u8]) -> Option<&[u8]>
+    ensures { Gives (λ rest. rest.now) result
+        (option_map (λ read. read.1) (optional 80 int64_part bytes.now)) }
+{
+    match bytes {
+        [TIME_MICROS, rest @ ..] => {
+            let (_, rest) = int64(rest)?;
+            Some(rest)
+        }
+        _ => Some(bytes),
+    }
+}
+
 /// The metric, if the bytes begin with it, and the bytes after it.
 #[tactic(auto, unfolding(crate::specs::Reading::sint64_part, crate::specs::Reading::optional))]
 #[inline(always)]
-fn optional_metric(bytes: &[u8]) -> Option<(Option<i64>, &[u8])>
+pub(crate) fn optional_metric(bytes: &[u8]) -> Option<(Option<i64>, &[u8])>
     ensures { Gives (λ read. (read.0, read.1.now)) result (optional 104 sint64_part bytes.now) }
 {
     let [METRIC_SINT64, rest @ ..] = bytes else {

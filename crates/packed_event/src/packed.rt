@@ -161,7 +161,11 @@ fn overwrite(block: &mut Vec<u8>, bytes: &[u8]) -> Result<(), Memory>
     ensures err { OnErr result (block.new.items ≡ block.old.items) }
     ensures fits { length bytes.now ≤ length block.old.items → IsOk result }
 {
-    block.resize(bytes.len(), 0)?;
+    // The events of a key mostly have as many bytes as the one before.
+    if block.len() != bytes.len() {
+        block.reserve_exact(bytes.len().saturating_sub(block.len()))?;
+        block.resize(bytes.len(), 0)?;
+    }
     block.copy_from_slice(bytes);
     Ok(())
 }

@@ -8,17 +8,16 @@ ghost use Rattle.riemann_msg.specs.ReadBack.{IsWellFormedEvent};
 ghost use Rattle.riemann_msg.specs.Spelling.{event_values, spelled};
 ghost use Rattle.riemann_msg.specs.Value.{event_of};
 ghost use Rattle.packed_event.specs.Kept.{bytes_of, event_in, IsKept};
-ghost use Rattle.packed_event.specs.Packed.{IsPacked};
 
-use crate::places::{Places, places_of, text_in};
+use crate::places::{Places, kept_places, text_in};
 use std::marker::Model;
 
 /// An event whose bytes lie elsewhere. They are those that this server writes for it, and less than 4 GiB. Contracts
 /// see the event.
 #[derive(Drop)]
 pub struct PackedRef<'a> {
-    bytes: &'a [u8],
-    places: Places,
+    pub(crate) bytes: &'a [u8],
+    pub(crate) places: Places,
 }
 
 impl<'a> Model for PackedRef<'a> {
@@ -48,7 +47,7 @@ impl<'a> PackedRef<'a> {
             → bytes.now ≡ spelled (event_values event) → length bytes.now < 2 ^ 32
             → IsSome result }
     {
-        let places = places_of(bytes)?;
+        let places = kept_places(bytes)?;
         Some(PackedRef { bytes, places })
     }
 
@@ -64,7 +63,7 @@ impl<'a> PackedRef<'a> {
     /// The places of its parts.
     #[inline]
     pub(crate) fn places(&self) -> Places
-        ensures { IsPacked (bytes_of self.now) result self.now }
+        ensures { IsKept (bytes_of self.now) result }
     {
         self.places
     }

@@ -1,6 +1,6 @@
 //! Where the parts of an event are in its bytes.
 
-ghost use Rattle.std.specs.Prelude.{◌≡◌, ℕ, ◌^◌, ◌<◌, None, option_copied, pos, length, IfSome, IsSome};
+ghost use Rattle.std.specs.Prelude.{◌≡◌, ℕ, ◌^◌, ◌<◌, ◌≤◌, None, drop, option_copied, pos, length, IfSome, IsSome};
 ghost use Rattle.std.specs.Option.{option_map};
 ghost use Rattle.std.specs.Str.{IsUtf8};
 ghost use Rattle.ev_types.specs.declared.event.Event.{Event};
@@ -8,6 +8,7 @@ ghost use Rattle.riemann_msg.specs.Fault.{event_fault};
 ghost use Rattle.riemann_msg.specs.ReadBack.{IsWellFormedEvent};
 ghost use Rattle.riemann_msg.specs.Spelling.{event_values, spelled};
 ghost use Rattle.riemann_msg.specs.Value.{event_of};
+ghost use Rattle.packed_event.specs.Kept.{IsKept};
 ghost use Rattle.packed_event.specs.Packed.{IsPacked, LiesIn, text_at};
 ghost use Rattle.packed_event.specs.Reading.{Gives, packed_in};
 
@@ -48,6 +49,15 @@ pub(crate) fn text_in(bytes: &[u8], span: Option<Span>) -> Option<&str>
     Some(unsafe { from_utf8_unchecked(text) })
 }
 
+/// The bytes from `start` on.
+#[inline]
+pub(crate) fn bytes_from(bytes: &[u8], start: u32) -> &[u8]
+    requires { start ≤ length bytes.now }
+    ensures { result.now ≡ drop start bytes.now }
+{
+    &bytes[start as usize..]
+}
+
 /// Where the parts of an event are in its bytes, and what tells when it expires.
 #[derive(Clone, Copy, Debug, PartialEq, Eq)]
 pub struct Places {
@@ -59,6 +69,8 @@ pub struct Places {
     pub ttl: Option<u32>,
     /// Whether its state is "expired".
     pub ends_key: bool,
+    /// The place of the first field after its texts: of its first tag, if it has any.
+    pub tags: u32,
 }
 
 /// The places of an event's parts, if the bytes are exactly those that this server writes for the event. Those have the
@@ -75,6 +87,16 @@ pub fn places_of(bytes: &[u8]) -> Option<Places>
     ensures found { (event : Event) → IsWellFormedEvent event
         → bytes.now ≡ spelled (event_values event) → length bytes.now < 2 ^ 32 → IsSome result }
 {
+    kept_places(bytes)
+}
+
+/// The same, for bytes that are kept with the places.
+#[inline(always)]
+pub(crate) fn kept_places(bytes: &[u8]) -> Option<Places>
+    ensures kept { IfSome result (λ places. IsKept bytes.now places) }
+    ensures found { (event : Event) → IsWellFormedEvent event
+        → bytes.now ≡ spelled (event_values event) → length bytes.now < 2 ^ 32 → IsSome result }
+{
     if bytes.len() > u32::MAX as usize {
         return None;
     }
@@ -83,6 +105,7 @@ pub fn places_of(bytes: &[u8]) -> Option<Places>
 
 /// The same, where each place fits 32 bits.
 #[tactic(auto, unfolding(crate::specs::Reading::packed_in))]
+#[inline(always)]
 fn places_in(bytes: &[u8]) -> Option<Places>
     requires small { length bytes.now < 2 ^ 32 }
     ensures { Gives (λ places. places) result
@@ -102,5 +125,6 @@ fn places_in(bytes: &[u8]) -> Option<Places>
         time: names.time,
         ttl,
         ends_key: names.ends_key,
+        tags: names.tags,
     })
 }

@@ -8,6 +8,7 @@ const BARE: Places = Places {
     time: 1,
     ttl: None,
     ends_key: false,
+    tags: 2,
 };
 
 /// Bytes as this server writes them.
@@ -21,6 +22,7 @@ const WRITTEN: &[(&[u8], Places)] = &[
             time: -1,
             ttl: None,
             ends_key: false,
+            tags: 11,
         },
     ),
     (
@@ -31,6 +33,7 @@ const WRITTEN: &[(&[u8], Places)] = &[
             time: 128,
             ttl: None,
             ends_key: true,
+            tags: 12,
         },
     ),
     (
@@ -41,6 +44,7 @@ const WRITTEN: &[(&[u8], Places)] = &[
             time: 1,
             ttl: Some(60),
             ends_key: false,
+            tags: 9,
         },
     ),
     (
@@ -51,12 +55,13 @@ const WRITTEN: &[(&[u8], Places)] = &[
             time: 1,
             ttl: Some(0),
             ends_key: false,
+            tags: 8,
         },
     ),
     // A description, two tags, an attribute without a value and one with, 1.5 seconds, -3, and the bits of two numbers.
     (
         b"\x08\x01\x2a\x01d\x3a\x01t\x3a\x00\x4a\x03\x0a\x01k\x4a\x06\x0a\x01k\x12\x01v\x50\xe0\xc6\x5b\x68\x05\x71\x01\x02\x03\x04\x05\x06\x07\x08\x7d\x01\x02\x03\x04",
-        BARE,
+        Places { tags: 5, ..BARE },
     ),
 ];
 

@@ -8,7 +8,6 @@ invariant_of-self-2 c =
     let lent = c.bytes.ensures in
     kept_again c.overwrite.new.block.items c.places-self-inside.result c.args.event.now (copied ∙ lent.bytes)
     c.places-self-inside.ensures
-    (subst (λ (t : List ℕ). length t < 2 ^ 32) (sym copied) lent.few)
 
 pub returns-clause-ok : goal.returns-clause-ok
 returns-clause-ok c =

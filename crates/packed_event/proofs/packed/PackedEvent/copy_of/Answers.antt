@@ -8,7 +8,6 @@ invariant_of-result c =
     let lent = c.bytes.ensures in
     kept_again c.in_ok-bytes.bytes.items c.places-places.result c.args.event.now (copied ∙ lent.bytes)
     c.places-places.ensures
-    (subst (λ (t : List ℕ). length t < 2 ^ 32) (sym copied) lent.few)
 
 pub returns : goal.returns
 returns c =
