@@ -83,17 +83,14 @@ impl Register {
         self.numbers.get(key).copied()
     }
 
-    /// The number of the key that is what the event holds in the fields, if it is at one of the two indices that were
-    /// noted last for its hash.
+    /// The number of the key that is what the event holds in the fields, if it is at the index that was noted for its
+    /// hash.
     pub(crate) fn known(&self, event: &Event, fields: &Fields) -> Option<usize>
         ensures { IfSome result (λ number.
             number_of (event_key event.now fields.now) self.now ≡ Some number) }
     {
-        let (last, earlier) = self.hints.pair(hash_of_fields(event, fields))?;
-        match self.known_at(last, event, fields) {
-            Some(number) => Some(number),
-            None => self.known_at(earlier, event, fields),
-        }
+        let index = self.hints.number(hash_of_fields(event, fields))?;
+        self.known_at(index, event, fields)
     }
 
     /// The number of the key at the index, if that key is what the event holds in the fields.

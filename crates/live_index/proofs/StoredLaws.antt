@@ -8,7 +8,6 @@ use Rattle.ev_types.specs.Expiry.{ends_key, is_late}
 use Rattle.key_map.specs.Keys.{IndexKey, Numbers, number_at, IsRising, Sets}
 use Rattle.linked_slots.specs.Table.{value_at, Changes}
 use Rattle.tick_schedule.specs.Queue as queue
-use Rattle.tick_schedule.specs.Queue.{moment_at}
 use Rattle.live_index.specs.Slots.{key_of, is_by, is_late_in, IsStored}
 use Rattle.live_index.proofs.CountLaws.{one_less, one_more_key}
 use Rattle.live_index.proofs.SlotsLaws.{end-linked, put-linked, replace-linked}

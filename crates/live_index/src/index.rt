@@ -223,8 +223,8 @@ impl<P: EventForm> EventIndex<P> {
     }
 
     /// How many bytes a reply has with the live events that meet the predicate, as those that [`EventIndex::find`]
-    /// lends. It looks at as many events, and counts as many entries. What it learns of each event is kept until that
-    /// changes. `Memory`: also where the bytes are more than a `usize` can count.
+    /// lends. It looks at as many events, and counts as many entries. `Memory`: also where the bytes are more than a
+    /// `usize` can count.
     pub fn found_len<G: Ledger>(
         &mut self,
         alloc: Global,

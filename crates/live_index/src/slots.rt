@@ -88,8 +88,28 @@ impl<P: EventForm> Slots<P> {
         ensures puts { OnOk result (Puts (key_of event.old) (Some event.old)
             self.old.numbers self.old.events.values self.new.numbers self.new.events.values) }
     {
-        let hash = KeyRef::of(event).hash();
-        match self.number_of(hash, event) {
+        let key = KeyRef::of(event);
+        let hash = key.hash();
+        match self.hinted(hash, key) {
+            Some(number) => self.replace(alloc, number, event),
+            None => self.enter_unhinted(alloc, hash, event),
+        }
+    }
+
+    /// The same, where no hint gives the number of the event's host and service, which have this hash.
+    fn enter_unhinted(&mut self, alloc: Global, hash: u64, event: &mut Event) -> Result<(), Memory>
+        requires stored { IsStored self.old.numbers self.old.events.values
+            self.old.due self.old.count }
+        requires current { ends_key event.old ≡ false }
+        ensures stored { OnOk result
+            (IsStored self.new.numbers self.new.events.values self.new.due self.new.count) }
+        ensures puts { OnOk result (Puts (key_of event.old) (Some event.old)
+            self.old.numbers self.old.events.values self.new.numbers self.new.events.values) }
+    {
+        match self
+            .numbers
+            .get(event.host.as_ref(), event.service.as_ref())
+        {
             Some(number) => {
                 self.hints.note(hash, number);
                 self.replace(alloc, number, event)
@@ -98,33 +118,19 @@ impl<P: EventForm> Slots<P> {
         }
     }
 
-    /// The number of the event's host and service, which have this hash.
-    fn number_of(&self, hash: u64, event: &Event) -> Option<usize>
-        requires { IsLinked self.now.numbers self.now.events.values }
-        ensures { result ≡ number_at (key_of event.now) self.now.numbers }
-    {
-        match self.hinted(hash, KeyRef::of(event)) {
-            Some(number) => Some(number),
-            None => self
-                .numbers
-                .get(event.host.as_ref(), event.service.as_ref()),
-        }
-    }
-
-    /// The number of the key, if it is one of the two that were noted for the hash.
+    /// The number of the key, if it was noted for the hash.
+    #[inline(always)]
     fn hinted(&self, hash: u64, key: KeyRef<'_>) -> Option<usize>
         requires { IsLinked self.now.numbers self.now.events.values }
         ensures { IfSome result (λ number.
             number_at (key_lent key.entry) self.now.numbers ≡ Some number) }
     {
-        let (last, earlier) = self.hints.pair(hash)?;
-        match self.checked_hint(last, key) {
-            Some(number) => Some(number),
-            None => self.checked_hint(earlier, key),
-        }
+        let number = self.hints.number(hash)?;
+        self.checked_hint(number, key)
     }
 
     /// The number, if an event of this key has it.
+    #[inline(always)]
     fn checked_hint(&self, number: usize, key: KeyRef<'_>) -> Option<usize>
         requires { IsLinked self.now.numbers self.now.events.values }
         ensures { IfSome result (λ number.

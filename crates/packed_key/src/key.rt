@@ -3,6 +3,7 @@ ghost use Rattle.index_log.specs.IndexKey.{text_cmp};
 ghost use Rattle.key_map.specs.Keys.{key_cmp};
 ghost use Rattle.packed_key.specs.Key.{hash_fed, key_hash, key_lent, key_of};
 
+use crate::bytes::are_equal;
 use ev_types::{Event, Text};
 use packed_event::{PackedEvent, PackedRef};
 use std::cmp::Ordering;
@@ -47,7 +48,7 @@ impl<'a> KeyRef<'a> {
     }
 
     /// Whether it is the same key.
-    #[inline]
+    #[inline(always)]
     pub fn is(self, other: KeyRef<'_>) -> bool
         ensures { IsTrue result ↔ (key_lent self.entry ≡ key_lent other.entry) }
     {
@@ -65,7 +66,7 @@ impl<'a> KeyRef<'a> {
     }
 
     /// A hash of it, which is the same for equal keys.
-    #[inline]
+    #[inline(always)]
     pub fn hash(self) -> u64
         ensures { result ≡ key_hash (key_lent self.entry) }
     {
@@ -105,7 +106,7 @@ fn is_same(a: Option<&[u8]>, b: Option<&[u8]>) -> bool
 {
     match (a, b) {
         (None, None) => true,
-        (Some(a), Some(b)) => a == b,
+        (Some(a), Some(b)) => are_equal(a, b),
         _ => false,
     }
 }

@@ -2,6 +2,7 @@
 //! in one whose bytes lie elsewhere.
 #![tactic(auto)]
 
+mod bytes;
 mod key;
 
 pub use key::KeyRef;

@@ -16,7 +16,7 @@ pub const EMPTY_REPLY: usize = 2;
 /// An event, and how many bytes it adds to a reply, once that was asked for.
 #[derive(Drop)]
 pub struct MeasuredEvent {
-    // It is forgotten when the event changes, and not kept where it is 2^32 or more.
+    // `None` if nobody asked since the event changed, or if it is 2^32 or more.
     len: Option<u32>,
     event: Event,
 }
@@ -100,6 +100,7 @@ impl MeasuredEvent {
     pub(crate) fn len(&mut self) -> Result<usize, Memory>
         ensures same { self.new ≡ self.old }
         ensures len { IfOk result (λ len. 2 + len ≡ reply_len (self.old ∷ [])) }
+        ensures err { OnErr result (2 ^ 64 ≤ reply_len (self.old ∷ [])) }
     {
         let len = self.reply_len()?;
         self.len = u32::try_from(len).ok();

@@ -17,7 +17,7 @@ use std::mem;
 /// How an event is kept.
 #[derive(Drop)]
 pub(crate) enum Kept<P> {
-    /// It owns its parts. It is in a box, so that it takes no more room beside packed events than these.
+    /// It owns its parts. It is in a box, so that the enum is no larger than a packed event.
     Owned(Box<MeasuredEvent>),
     /// It is packed.
     Packed(P),
@@ -106,11 +106,12 @@ impl<P: EventForm> Stored<P> {
         }
     }
 
-    /// The same, which is kept until the event changes.
+    /// The same. An event that owns its parts keeps the answer until it changes.
     #[inline]
     pub fn len(&mut self) -> Result<usize, Memory>
         ensures same { self.new ≡ self.old }
         ensures len { IfOk result (λ len. 2 + len ≡ reply_len (self.old ∷ [])) }
+        ensures err { OnErr result (2 ^ 64 ≤ reply_len (self.old ∷ [])) }
     {
         match &mut self.kept {
             Kept::Owned(measured) => measured.len(),
@@ -156,6 +157,7 @@ impl<P: EventForm> Stored<P> {
     #[inline]
     pub fn take_from(&mut self, alloc: Global, event: &mut Event) -> Result<(), Memory>
         ensures ok { OnOk result (self.new ≡ event.old) }
+        ensures err { OnErr result (self.new ≡ self.old) }
     {
         match &mut self.kept {
             Kept::Owned(measured) => measured.swap(event),

@@ -1,5 +1,5 @@
-ghost use Rattle.std.specs.Prelude.{◌≡◌, ℕ, ◌<◌, [], length, slice_set, None, OnOk};
-ghost use Rattle.tick_schedule.specs.Moments.{at, moments_from, place_at};
+ghost use Rattle.std.specs.Prelude.{◌≡◌, ◌↔◌, ℕ, ◌<◌, [], length, slice_set, None, Some, IsTrue, OnOk};
+ghost use Rattle.tick_schedule.specs.Moments.{at, moment_in, moments_from, place_at};
 
 use list_laws::Memory;
 use std::alloc::Global;
@@ -89,6 +89,17 @@ impl Places {
         match self.by_id.get(id) {
             Some(Some(place)) => Some(place.copied()),
             _ => None,
+        }
+    }
+
+    /// Whether the id has a place with this moment.
+    #[inline]
+    pub(crate) fn has_moment(&self, id: usize, moment: u64) -> bool
+        ensures { IsTrue result ↔ (moment_in (place_at id self.now) ≡ Some moment) }
+    {
+        match self.by_id.get(id) {
+            Some(Some(place)) => place.moment == moment,
+            _ => false,
         }
     }
 

@@ -1,10 +1,10 @@
-ghost use Rattle.std.specs.Prelude.{◌≡◌, ◌↔◌, IsTrue, ◌+◌, ◌≤◌, ◌++◌, [], length, true, false, not, filter, ◌≢◌, Some, None, IfOk, OnOk, OnErr, IsOk};
+ghost use Rattle.std.specs.Prelude.{◌≡◌, IsTrue, ◌+◌, ◌≤◌, ◌++◌, [], length, true, false, not, filter, ◌≢◌, Some, None, IfOk, OnOk, OnErr, IsOk};
 ghost use Rattle.std.specs.List.{list_any};
 ghost use Rattle.list_laws.specs.Prefix.{IsPrefix};
 ghost use Rattle.std.specs.Ordering.{nat_cmp};
 ghost use Rattle.std.specs.BTreeMap.{is_at};
-ghost use Rattle.tick_schedule.specs.Moments.{moment_in, moments_from};
-ghost use Rattle.tick_schedule.specs.Queue.{IsRising, Sets, due_ids, due_later, without, IsNext};
+ghost use Rattle.tick_schedule.specs.Moments.{moments_from};
+ghost use Rattle.tick_schedule.specs.Queue.{IsRising, Sets, moment_at, due_ids, due_later, without, IsNext};
 ghost use Rattle.tick_schedule.specs.Schedule.{IsTied, IsTiedBut};
 
 use crate::due_lists::DueLists;
@@ -49,15 +49,35 @@ impl DueQueue {
     }
 
     /// Sets the moment at which the id is due, in place of the one that it had.
+    #[inline]
     pub fn set(&mut self, alloc: Global, id: usize, due: u64) -> Result<(), Memory>
         ensures ok { OnOk result (Sets self.old self.new id (Some due)) }
         ensures err { OnErr result (self.new ≡ self.old) }
         ensures rising { IsRising self.new }
     {
-        let before = self.places.get(id);
-        if has_moment(&before, due) {
+        if self.is_due_at(id, due) {
             return Ok(());
         }
+        self.change(alloc, id, due)
+    }
+
+    /// Whether the id has this moment.
+    #[inline]
+    fn is_due_at(&self, id: usize, moment: u64) -> bool
+        ensures moment { IsTrue result → moment_at id self.now ≡ Some moment }
+        ensures rising { IsRising self.now }
+    {
+        self.places.has_moment(id, moment)
+    }
+
+    /// Sets the moment of the id, which has none or another one.
+    #[inline(never)]
+    fn change(&mut self, alloc: Global, id: usize, due: u64) -> Result<(), Memory>
+        ensures ok { OnOk result (Sets self.old self.new id (Some due)) }
+        ensures err { OnErr result (self.new ≡ self.old) }
+        ensures rising { IsRising self.new }
+    {
+        let before = self.places.get(id);
         self.places.reach(id)?;
         let place = self.lists.push(alloc, due, id)?;
         self.places.set(id, place);
@@ -165,16 +185,6 @@ fn push_all<G: Ledger>(
         out.push(alloc, *id)?;
     }
     Ok(())
-}
-
-/// Whether the place has this moment.
-fn has_moment(place: &Option<Place>, moment: u64) -> bool
-    ensures { IsTrue result ↔ (moment_in place.now ≡ Some moment) }
-{
-    match place {
-        Some(place) => place.moment() == moment,
-        None => false,
-    }
 }
 
 /// Removes the id at the place, if there is one, from the list of its moment. The id that comes to its index has that

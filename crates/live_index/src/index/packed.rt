@@ -11,7 +11,6 @@ use std::alloc::Global;
 
 impl PackedIndex {
     /// Writes as [`EventIndex::put`](crate::EventIndex::put) does, an event whose bytes lie elsewhere, which are copied.
-    /// It takes memory only if the event's host and service are new, or if it has more bytes than those before it.
     pub fn put_packed(&mut self, alloc: Global, event: &PackedRef<'_>) -> Result<(), Memory>
         ensures ok { OnOk result ((log : IndexLog) → Represents self.old log →
             Represents self.new (log ++ Write event.now ∷ [])) }

@@ -28,16 +28,28 @@ impl Slots<PackedEvent> {
             self.old.numbers self.old.events.values self.new.numbers self.new.events.values) }
     {
         if event.ends_key() {
-            let host = owned_text(alloc, event.host())?;
-            let service = owned_text(alloc, event.service())?;
-            self.end(host.as_ref(), service.as_ref());
-            return Ok(());
+            return self.end_packed(alloc, event);
         }
-        self.enter_packed(alloc, event)?;
+        self.enter_packed(alloc, event)
+    }
+
+    /// Removes the event of the host and service of this one, if there is one.
+    #[inline(never)]
+    fn end_packed(&mut self, alloc: Global, event: &PackedRef<'_>) -> Result<(), Memory>
+        requires { IsStored self.old.numbers self.old.events.values self.old.due self.old.count }
+        ensures stored { OnOk result
+            (IsStored self.new.numbers self.new.events.values self.new.due self.new.count) }
+        ensures puts { OnOk result (Puts (key_of event.now) None
+            self.old.numbers self.old.events.values self.new.numbers self.new.events.values) }
+    {
+        let host = owned_text(alloc, event.host())?;
+        let service = owned_text(alloc, event.service())?;
+        self.end(host.as_ref(), service.as_ref());
         Ok(())
     }
 
     /// Copies the event, which does not end its key, into the slots, in place of the one of its host and service.
+    #[inline(always)]
     fn enter_packed(&mut self, alloc: Global, event: &PackedRef<'_>) -> Result<(), Memory>
         requires stored { IsStored self.old.numbers self.old.events.values
             self.old.due self.old.count }
@@ -50,13 +62,14 @@ impl Slots<PackedEvent> {
         let key = KeyRef::of_ref(event);
         let hash = key.hash();
         match self.hinted(hash, key) {
-            Some(number) => self.replace_packed(alloc, hash, number, event),
-            None => self.enter_unhinted(alloc, hash, event),
+            Some(number) => self.replace_packed(alloc, number, event),
+            None => self.enter_packed_unhinted(alloc, hash, event),
         }
     }
 
-    /// The same, where no hint says which number the event's host and service have.
-    fn enter_unhinted(
+    /// The same, where no hint gives the number of the event's host and service, which have this hash.
+    #[inline(never)]
+    fn enter_packed_unhinted(
         &mut self,
         alloc: Global,
         hash: u64,
@@ -73,7 +86,10 @@ impl Slots<PackedEvent> {
         let host = owned_text(alloc, event.host())?;
         let service = owned_text(alloc, event.service())?;
         match self.numbers.get(host.as_ref(), service.as_ref()) {
-            Some(number) => self.replace_packed(alloc, hash, number, event),
+            Some(number) => {
+                self.hints.note(hash, number);
+                self.replace_packed(alloc, number, event)
+            }
             None => {
                 let key = NewKey {
                     hash,
@@ -86,10 +102,10 @@ impl Slots<PackedEvent> {
     }
 
     /// Copies the event in place of the one of this number, which is of the same host and service.
+    #[inline(always)]
     fn replace_packed(
         &mut self,
         alloc: Global,
-        hash: u64,
         number: usize,
         event: &PackedRef<'_>,
     ) -> Result<(), Memory>
@@ -102,7 +118,6 @@ impl Slots<PackedEvent> {
         ensures puts { OnOk result (Puts (key_of event.now) (Some event.now)
             self.old.numbers self.old.events.values self.new.numbers self.new.events.values) }
     {
-        self.hints.note(hash, number);
         let due = due_moment(event);
         copy_at(alloc, &mut self.events, number, event)?;
         set_due(alloc, &mut self.due, number, due)?;
