@@ -1,8 +1,9 @@
-ghost use Rattle.std.specs.Prelude.{◌≡◌, ◌+◌, [], ◌++◌, false, if◌then◌else◌, Some, IfOk, IsErr, IsOk, IsTrue, OnErr, OnOk};
+ghost use Rattle.std.specs.Prelude.{◌≡◌, ◌+◌, [], ◌∷◌, ◌++◌, false, if◌then◌else◌, Some, IfOk, IsErr, IsOk, IsTrue, OnErr, OnOk};
 ghost use Rattle.ev_types.specs.Field.{field_value};
 ghost use Rattle.ev_types.specs.declared.item.Item.TheVariants.{One};
 ghost use Rattle.list_laws.specs.Prefix.{IsPrefix};
 ghost use Rattle.stream_plan.specs.Tree.{Changed};
+ghost use Rattle.stream_meaning.specs.Came.{each};
 ghost use Rattle.stream_meaning.specs.Deadlines.{next_deadline};
 ghost use Rattle.stream_meaning.specs.Emitted.{emitted};
 ghost use Rattle.stream_meaning.specs.declared.entry.Entry.TheVariants.{Tick, Item as In};
@@ -83,6 +84,31 @@ impl ChangedState {
         emit_if(alloc, differs, event, out)?;
         self.poisoned = false;
         Ok(())
+    }
+
+    /// Whether the event, which comes at the moment `now`, passes: its field differs from that of the event before.
+    /// It takes memory only where it passes. Once the answer was `Memory`, it is from then on.
+    pub fn passes(&mut self, alloc: Global, event: &Event, now: u64) -> Result<bool, Memory>
+        ensures kind { changed_kind self.new ≡ changed_kind self.old }
+        ensures passes { IfOk result (λ passes. (h : History) → ChangedRepresents self.old h →
+            moment_of h ≡ now → changed_at self.old (h ▸ In (One event.now))
+            ≡ (if passes then each (event.now ∷ []) else [])) }
+        ensures represents { OnOk result ((h : History) → ChangedRepresents self.old h →
+            moment_of h ≡ now →
+            ChangedRepresents self.new (h ▸ In (One event.now))) }
+        ensures memory { (h : History) → ChangedRepresents self.old h → moment_of h ≡ now →
+            changed_at self.old (h ▸ In (One event.now)) ≡ [] → IsOk result }
+        ensures poisoned { IsTrue (is_poisoned self.old) → IsErr result }
+        ensures err { OnErr result (IsTrue (is_poisoned self.new)) }
+        ensures sound { OnOk result (is_poisoned self.new ≡ false) }
+    {
+        if self.poisoned {
+            return Err(Memory);
+        }
+        self.poisoned = true;
+        let passes = self.follow(alloc, event)?;
+        self.poisoned = false;
+        Ok(passes)
     }
 
     /// The second `now` passes. Nothing is appended to `out`, and it takes no memory.

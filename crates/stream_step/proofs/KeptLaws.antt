@@ -6,7 +6,7 @@ use Rattle.ev_types.specs.declared.event.Event.{Event}
 use Rattle.ev_types.specs.declared.item.Emission.{Emission as CodeEmission}
 use Rattle.ev_types.specs.declared.item.Item.{Item}
 use Rattle.ev_types.specs.declared.item.Item.TheVariants.{One, Many}
-use Rattle.stream_states.specs.flow_streams.Changed.{ChangedRepresents}
+use Rattle.stream_states.specs.flow_streams.Changed.{changed_kind, ChangedRepresents}
 use Rattle.stream_states.specs.flow_streams.Runs.{RunsRepresents}
 use Rattle.stream_states.specs.flow_streams.declared.changed.ChangedState.{ChangedState}
 use Rattle.stream_states.specs.flow_streams.declared.runs.RunsState.{RunsState}
@@ -25,7 +25,7 @@ use Rattle.stream_states.specs.window_streams.declared.fixed_time.FixedTimeState
 use Rattle.stream_states.specs.window_streams.declared.moving_time.MovingTimeState.{MovingTimeState}
 use Rattle.stream_states.proofs.WindowStreamsCoalesceLaws.{coalesce-waits, coalesce-quiet}
 use Rattle.stream_meaning.specs.Came.{each}
-use Rattle.stream_meaning.specs.Emission.{Emission, to_children, emissions}
+use Rattle.stream_meaning.specs.Emission.{Emission, Children, to, to_children, emissions}
 use Rattle.stream_meaning.specs.Emitted.{emitted}
 use Rattle.stream_meaning.specs.declared.entry.Entry.{Entry}
 use Rattle.stream_meaning.specs.declared.entry.Entry.TheVariants.{Tick, Item as In}
@@ -62,6 +62,42 @@ pub given_meant : (before made : List CodeEmission) (kind : KindTree) (h : Histo
 given_meant before made kind h copied event none same passes =
     passes_meant before made (emissions kind (h ▸ In (One copied))) none passes
     ∙ ap (λ e. emissions kind (h ▸ In (One e))) same
+
+-- ---- a `changed` stream
+
+changed_at_first : (kind : KindTree) (state : KeptState) (old : ChangedState) (h : History) → state ≡ Changed old
+    → KeptRepresents kind state h → KeptRepresents kind (Changed old) h
+changed_at_first kind state old h is represents = subst (λ (s : KeptState). KeptRepresents kind s h) is represents
+
+-- where its own state goes on to a longer history, so does the state of its kind
+pub changed_represents : (kind : KindTree) (state : KeptState) (old new : ChangedState) (h after : History) →
+    state ≡ Changed old → changed_kind new ≡ changed_kind old →
+    (ChangedRepresents old h → ChangedRepresents new after) → KeptRepresents kind state h →
+    KeptRepresents kind (Changed new) after
+changed_represents kind state old new h after is same goes represents =
+    let first : KeptRepresents kind (Changed old) h = changed_at_first kind state old h is represents in
+    record { same_kind = same ∙ first.same_kind; history = goes first.history }
+
+-- what its own state passes on is what its kind passes on
+pub changed_passes : (kind : KindTree) (state : KeptState) (old : ChangedState) (h after : History)
+    (passed : List Emission) → state ≡ Changed old →
+    (ChangedRepresents old h → passed ≡ emissions (changed_kind old) after) → KeptRepresents kind state h →
+    passed ≡ emissions kind after
+changed_passes kind state old h after passed is goes represents =
+    let first : KeptRepresents kind (Changed old) h = changed_at_first kind state old h is represents in
+    goes first.history ∙ ap (λ k. emissions k after) first.same_kind
+
+-- an event passes as it came, or not at all
+pub one_passes : (passes : Bool) (items : List Item) (event : Event) →
+    items ≡ cond passes (each (event ∷ [])) [] → passes ≡ true →
+    to Children (One event) ≡ to_children items
+one_passes passes items event are met =
+    sym (ap to_children (are ∙ ap (λ (test : Bool). cond test (each (event ∷ [])) []) met))
+
+pub none_passes : (passes : Bool) (items : List Item) (event : Event) →
+    items ≡ cond passes (each (event ∷ [])) [] → passes ≡ false → [] ≡ to_children items
+none_passes passes items event are unmet =
+    sym (ap to_children (are ∙ ap (λ (test : Bool). cond test (each (event ∷ [])) []) unmet))
 
 -- ---- a vector
 

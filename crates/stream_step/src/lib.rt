@@ -9,5 +9,5 @@ mod step;
 pub use law::quiet_ticks_keep_states;
 pub use passed::{Branch, Passed};
 pub use state::State;
-pub use step::{Context, act};
+pub use step::{Context, act, own_patterns};
 pub use stream_states;

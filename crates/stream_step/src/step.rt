@@ -1,4 +1,4 @@
-ghost use Rattle.std.specs.Prelude.{◌≡◌, ℕ, ◌+◌, ◌≤◌, ◌^◌, false, List, [], ◌++◌, length, take, drop, if◌then◌else◌, IfOk, IsOk, OnErr, OnOk};
+ghost use Rattle.std.specs.Prelude.{◌≡◌, ℕ, ◌+◌, ◌≤◌, ◌^◌, false, List, [], ◌∷◌, ◌++◌, length, take, drop, if◌then◌else◌, Option, IfOk, IsOk, OnErr, OnOk};
 ghost use Rattle.ev_types.specs.declared.item.Item.TheVariants.{One, Many};
 ghost use Rattle.ev_types.specs.declared.value.Value.{Value};
 ghost use Rattle.list_laws.specs.Prefix.{IsPrefix};
@@ -9,21 +9,26 @@ ghost use Rattle.stream_meaning.specs.declared.entry.Entry.{Entry as CameEntry};
 ghost use Rattle.stream_meaning.specs.declared.entry.Entry.TheVariants.{Tick, Item as In};
 ghost use Rattle.stream_meaning.specs.Emission.{to, emissions, fold_of, Children as children, Otherwise as otherwise};
 ghost use Rattle.stream_meaning.specs.History.{History, ◌▸◌, moment_of};
+ghost use Rattle.stream_meaning.specs.Images.{with_sets, with_defaults, with_tags};
 ghost use Rattle.stream_meaning.specs.Laws.{own_outputs};
-ghost use Rattle.stream_plan.specs.Tree.{KindTree, kind_tree, Where};
+ghost use Rattle.stream_plan.specs.Tree.{KindTree, kind_tree, By, Where};
 ghost use Rattle.stream_states.specs.Kept.{KeptRepresents};
+ghost use Rattle.stream_states.specs.flow_streams.Changed.{changed_kind, ChangedRepresents};
 ghost use Rattle.stream_step.specs.Step.{branch_meant, ended_by, emissions_meant, HasNumbers, is_kept, StateRepresents, Acts};
 
 use crate::{Branch, Passed, State};
 use ev_types::{
-    Emission, Emissions, Event, Events, Fold, Item, Memory, Notice, Output, Outputs, key_of,
+    Emission, Emissions, Event, Events, Fields, Fold, Item, Memory, Notice, Output, Outputs, Sets,
+    Tags, Text, key_of,
 };
 use pred_eval::{Finder, Rule, rule_holds};
 use std::alloc::Global;
 use stream_meaning::Entry;
 use stream_plan::Kind;
 use stream_states::KeptState;
-use stream_states::flow_streams::{apply_defaults, apply_fold, apply_sets, apply_tags};
+use stream_states::flow_streams::{
+    ChangedState, apply_defaults, apply_fold, apply_sets, apply_tags,
+};
 
 /// What streams look up and don't change at an entry.
 #[derive(Drop)]
@@ -154,7 +159,54 @@ fn give_kept(alloc: Global, kept: &mut KeptState, item: &Item, now: u64) -> Resu
     }
 }
 
+/// What a stream of a kind that keeps something passes on of an event. A `changed` passes it on as it came.
+#[tactic(auto, using(crate::proofs::KeptLaws::changed_represents, crate::proofs::KeptLaws::changed_passes))]
 fn enter_kept(
+    alloc: Global,
+    kept: &mut KeptState,
+    event: &Event,
+    now: u64,
+) -> Result<Passed, Memory>
+    ensures represents { OnOk result ((kind : KindTree) (h : History) →
+        KeptRepresents kind kept.old h → moment_of h ≡ now → now ≤ 2 ^ 40 →
+        KeptRepresents kind kept.new (h ▸ In (One event.now))) }
+    ensures passes { IfOk result (λ passed. (kind : KindTree) (h : History) →
+        KeptRepresents kind kept.old h → moment_of h ≡ now → now ≤ 2 ^ 40 →
+        emissions_meant (ended_by kind h) passed (In (One event.now))
+        ≡ emissions kind (h ▸ In (One event.now))) }
+{
+    match kept {
+        KeptState::Changed(state) => Ok(pass_changed(alloc, state, event, now)?),
+        _ => Ok(enter_copy(alloc, kept, event, now)?),
+    }
+}
+
+#[tactic(auto, using(crate::proofs::KeptLaws::one_passes, crate::proofs::KeptLaws::none_passes))]
+fn pass_changed(
+    alloc: Global,
+    state: &mut ChangedState,
+    event: &Event,
+    now: u64,
+) -> Result<Passed, Memory>
+    ensures kind { changed_kind state.new ≡ changed_kind state.old }
+    ensures represents { OnOk result ((h : History) → ChangedRepresents state.old h →
+        moment_of h ≡ now → ChangedRepresents state.new (h ▸ In (One event.now))) }
+    ensures passes { IfOk result (λ passed. (ended : List Value → ℕ) (h : History) →
+        ChangedRepresents state.old h → moment_of h ≡ now →
+        emissions_meant ended passed (In (One event.now))
+        ≡ emissions (changed_kind state.old) (h ▸ In (One event.now))) }
+{
+    let passes = state.passes(alloc, event, now)?;
+    Ok(if passes {
+        Passed::Same(Branch::Children)
+    } else {
+        Passed::Nothing
+    })
+}
+
+/// What a stream of any other kind that keeps something passes on of an event. It takes a copy.
+#[inline(never)]
+fn enter_copy(
     alloc: Global,
     kept: &mut KeptState,
     event: &Event,
@@ -208,21 +260,43 @@ fn put_item_outputs(
     ensures prefix { IsPrefix out.old out.new }
 {
     match (kind, item) {
-        (Kind::Index, Item::One(event)) => {
-            out.push(alloc, Output::Write(event.copy(alloc)?))?;
-            Ok(())
-        }
-        (Kind::Notice(name), _) => {
-            let notice = Notice {
-                name: name.copy(alloc)?,
-                moment,
-                item: item.copy(alloc)?,
-            };
-            out.push(alloc, Output::Notice(notice))?;
-            Ok(())
-        }
+        (Kind::Index, Item::One(event)) => put_write(alloc, event, out),
+        (Kind::Notice(name), _) => put_notice(alloc, name, item, moment, out),
         _ => Ok(()),
     }
+}
+
+// A function that has an event in a local clears its room when it is called, used or not. So what makes an event is in
+// functions of its own, which are not inlined.
+
+/// Appends the write of a copy of the event.
+#[inline(never)]
+fn put_write(alloc: Global, event: &Event, out: &mut Outputs) -> Result<(), Memory>
+    ensures ok { OnOk result (out.new ≡ out.old ++ Output.Write event.now ∷ []) }
+    ensures err { OnErr result (out.new ≡ out.old) }
+{
+    out.push(alloc, Output::Write(event.copy(alloc)?))
+}
+
+/// Appends a notice of the name with a copy of the item.
+#[inline(never)]
+fn put_notice(
+    alloc: Global,
+    name: &Text,
+    item: &Item,
+    moment: u64,
+    out: &mut Outputs,
+) -> Result<(), Memory>
+    ensures ok { OnOk result (out.new ≡ out.old
+        ++ Output.Notice (record { name = name.now; moment = moment; item = item.now }) ∷ []) }
+    ensures err { OnErr result (out.new ≡ out.old) }
+{
+    let notice = Notice {
+        name: name.copy(alloc)?,
+        moment,
+        item: item.copy(alloc)?,
+    };
+    out.push(alloc, Output::Notice(notice))
 }
 
 /// What a stream passes on that keeps nothing of what came.
@@ -261,6 +335,7 @@ fn pass_vector(alloc: Global, kind: &Kind, events: &Events) -> Result<Passed, Me
 }
 
 /// The event that is folded of a vector, where there is one.
+#[inline(never)]
 fn pass_fold(alloc: Global, fold: Fold, events: &Events) -> Result<Passed, Memory>
     ensures { IfOk result (λ passed. (ended : List Value → ℕ) →
         emissions_meant ended passed (In (Many events.now))
@@ -292,12 +367,50 @@ fn pass_event(
             let branch = branch_of_rule(alloc, rule, state, event, patterns)?;
             Ok(Passed::Same(branch))
         }
-        Kind::With(sets) => pass_made(alloc, apply_sets(alloc, sets, event.copy(alloc)?)?),
-        Kind::Default(sets) => pass_made(alloc, apply_defaults(alloc, sets, event.copy(alloc)?)?),
-        Kind::Tag(tags) => pass_made(alloc, apply_tags(alloc, tags, event.copy(alloc)?)?),
-        Kind::By { fields, .. } => Ok(Passed::Keyed(key_of(alloc, event, fields)?)),
+        Kind::With(sets) => pass_with(alloc, sets, event),
+        Kind::Default(sets) => pass_default(alloc, sets, event),
+        Kind::Tag(tags) => pass_tagged(alloc, tags, event),
+        Kind::By { fields, .. } => pass_keyed(alloc, fields, event),
         _ => Ok(Passed::Nothing),
     }
+}
+
+/// The event with all sets made.
+#[inline(never)]
+fn pass_with(alloc: Global, sets: &Sets, event: &Event) -> Result<Passed, Memory>
+    ensures { IfOk result (λ passed. (ended : List Value → ℕ) (x : CameEntry) →
+        emissions_meant ended passed x ≡ to children (One (with_sets sets.now event.now))) }
+{
+    pass_made(alloc, apply_sets(alloc, sets, event.copy(alloc)?)?)
+}
+
+/// The event with each set made whose field holds nil.
+#[inline(never)]
+fn pass_default(alloc: Global, sets: &Sets, event: &Event) -> Result<Passed, Memory>
+    ensures { IfOk result (λ passed. (ended : List Value → ℕ) (x : CameEntry) →
+        emissions_meant ended passed x ≡ to children (One (with_defaults sets.now event.now))) }
+{
+    pass_made(alloc, apply_defaults(alloc, sets, event.copy(alloc)?)?)
+}
+
+/// The event with the tags added.
+#[inline(never)]
+fn pass_tagged(alloc: Global, tags: &Tags, event: &Event) -> Result<Passed, Memory>
+    ensures { IfOk result (λ passed. (ended : List Value → ℕ) (x : CameEntry) →
+        emissions_meant ended passed x ≡ to children (One (with_tags tags.now event.now))) }
+{
+    pass_made(alloc, apply_tags(alloc, tags, event.copy(alloc)?)?)
+}
+
+/// The event for the fork of its key.
+#[tactic(auto, using(crate::proofs::StepLaws::keyed))]
+#[inline(never)]
+fn pass_keyed(alloc: Global, fields: &Fields, event: &Event) -> Result<Passed, Memory>
+    ensures { IfOk result (λ passed. (idle : Option ℕ) (h : History) →
+        emissions_meant (ended_by (By fields.now idle) h) passed (In (One event.now))
+        ≡ emissions (By fields.now idle) (h ▸ In (One event.now))) }
+{
+    Ok(Passed::Keyed(key_of(alloc, event, fields)?))
 }
 
 /// One event for the children.
@@ -336,8 +449,8 @@ fn branch_of_rule(
     })
 }
 
-/// The regular expressions of the stream.
-fn own_patterns<'a>(state: &State, patterns: &'a [Finder]) -> &'a [Finder]
+/// Those of the plan's regular expressions that a `where` of this state has, in the order of its rule.
+pub fn own_patterns<'a>(state: &State, patterns: &'a [Finder]) -> &'a [Finder]
     ensures { (texts : List (List ℕ)) (rule : RuleTree) → AreReadFrom texts patterns.now →
         HasNumbers texts (Where rule) state.now → AreReadFrom (searches rule) result.now }
 {

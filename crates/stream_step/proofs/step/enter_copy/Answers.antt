@@ -1,5 +1,5 @@
 use Rattle.stream_step.proofs.KeptLaws.{given_meant}
-use Rattle.stream_step.proofs.step.enter_kept.Goals as goal
+use Rattle.stream_step.proofs.step.enter_copy.Goals as goal
 
 pub returns-clause-passes : goal.returns-clause-passes
 returns-clause-passes c kind h represents moment bound =
