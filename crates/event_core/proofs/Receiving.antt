@@ -1,6 +1,6 @@
 -- How a core receives more arrivals: it is poisoned, or memory runs out, or they are received.
 use Rattle.std.proofs.Common.{◌≡◌, true, false, List, [], refl, sym, ◌∙◌}
-use Rattle.std.specs.Prelude.{Result, Ok, Err}
+use Rattle.std.specs.Prelude.{Ok, Err}
 use Rattle.std.proofs.lemmas.Bool.{false≢true}
 use Rattle.std.proofs.lemmas.List.{append-nil}
 use Rattle.ev_types.specs.declared.item.Notice.{Notice}

@@ -122,9 +122,9 @@ impl Core {
         Ok(())
     }
 
-    /// Posts an event whose bytes lie elsewhere. If a stream sees it, it is unpacked into `spare`, and what is left
-    /// there is not specified; the index gets its bytes. The notices that the streams give are appended to `out`. After
-    /// `Memory` `out` begins with what it had.
+    /// Posts an event whose bytes lie elsewhere. If the streams need the event itself, it is unpacked into `spare`, and
+    /// what is left there is not specified. The notices that the streams give are appended to `out`. After `Memory`
+    /// `out` begins with what it had.
     #[inline]
     pub fn post_packed<G: Ledger>(
         &mut self,

@@ -20,7 +20,7 @@ use std::alloc::Global;
 use step_count::{Ledger, Steps};
 use stored_event::Stored;
 use stream_plan::ReadyPlan;
-use stream_tree::Tree;
+use stream_tree::{Tree, Unseen};
 
 /// Streams, and the index that they write to. After `Memory` nothing is known of them.
 #[derive(Drop)]
@@ -88,7 +88,7 @@ impl IndexedStreams {
     }
 
     /// An event whose bytes lie elsewhere comes to the streams at the moment `now`, the one they are at. It is unpacked
-    /// into `spare` if a stream sees it. What is left in `spare` is not specified.
+    /// into `spare` if its fields do not say what the streams do with it. What is left in `spare` is not specified.
     #[inline]
     pub(crate) fn packed_item<G: Ledger>(
         &mut self,
@@ -115,17 +115,21 @@ impl IndexedStreams {
             moment_of state.history ≡ now → steps.new.began ≡ steps.old.began }
         ensures prefix { IsPrefix out.old out.new }
     {
-        let is_write_due = self.tree.offer_unseen()?;
-        if is_write_due {
-            self.index.put_packed(alloc, event)?;
-            return Ok(());
+        match self.tree.offer_fields(alloc, event)? {
+            Unseen::Nothing => Ok(()),
+            Unseen::Write => {
+                self.index.put_packed(alloc, event)?;
+                Ok(())
+            }
+            Unseen::Needed => {
+                self.seen_item(alloc, event, spare, now, out, steps)?;
+                Ok(())
+            }
         }
-        self.seen_item(alloc, event, spare, now, out, steps)?;
-        Ok(())
     }
 
-    /// An event whose bytes lie elsewhere is unpacked into `spare`, and comes to the streams from there. The index gets
-    /// its bytes.
+    /// An event whose bytes lie elsewhere is unpacked into `spare`, and comes to the streams from there. An `index` that
+    /// is last at the top gets its bytes.
     fn seen_item<G: Ledger>(
         &mut self,
         alloc: Global,

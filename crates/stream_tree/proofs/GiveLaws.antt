@@ -117,26 +117,3 @@ pub other_streams : (streams : List Stream) → (length streams ≡ 1 → ⊥) �
 other_streams [] others = refl
 other_streams (first ∷ []) others = absurd (others refl)
 other_streams (first ∷ second ∷ more) others = refl
-
--- whichever event comes, it is written, and nothing else is done
-pub one_index_writes : (plan : StreamTrees) (h : History) (event : Event) → is_one_index plan ≡ true
-    → plan_effects plan (h ▸ In (One event)) ≡ Put (Write event) ∷ []
-one_index_writes (also (stream Index children otherwise) none) h event is = refl
-one_index_writes (also only none) h event is = cc
-one_index_writes (also first (also second more)) h event is = cc
-one_index_writes none h event is = cc
-
--- and the stream is as it was
-pub one_index_stays : (texts : List (List ℕ)) (plan : StreamTrees) (nodes : List Node) (h : History) (event : Event) →
-    is_one_index plan ≡ true → ForestRepresents texts plan nodes h →
-    ForestRepresents texts plan nodes (h ▸ In (One event))
-one_index_stays texts plan [] h event is represents = represents
-one_index_stays texts (also (stream Index children otherwise) none) (node ∷ []) h event is represents = (
-  (index_stays texts (out-Node node).state h (In (One event)) represents.0.0, represents.0.1),
-  represents.1,
-)
-one_index_stays texts (also (stream Index children otherwise) none) (node ∷ other ∷ nodes) h event is represents =
-    absurd represents.1
-one_index_stays texts (also only none) (node ∷ nodes) h event is represents = cc
-one_index_stays texts (also first (also second more)) (node ∷ nodes) h event is represents = cc
-one_index_stays texts none (node ∷ nodes) h event is represents = absurd represents

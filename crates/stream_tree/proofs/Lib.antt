@@ -18,3 +18,4 @@ pub mod ForestLaws
 pub mod BareLoop
 pub mod FreshLaws
 pub mod NextLaws
+pub mod UnseenLaws

@@ -228,7 +228,7 @@ node_forked s state below own next forked own_is least =
 
 -- ---- a list of streams
 
-node_at : (texts : List (List ℕ)) (h : History) (streams : List Stream) (nodes : List Node) (i : ℕ) (s : Stream)
+pub node_at : (texts : List (List ℕ)) (h : History) (streams : List Stream) (nodes : List Node) (i : ℕ) (s : Stream)
     (node : Node) →
     i < length streams → i < length nodes → ForestRepresents texts (list_trees streams) nodes h →
     NodeRepresents texts (opened (get_or streams i s)) (get_or nodes i node) h

@@ -10,5 +10,7 @@ mod give;
 mod next;
 mod run;
 mod tree;
+mod unseen;
 
 pub use tree::Tree;
+pub use unseen::Unseen;

@@ -56,7 +56,7 @@ pub(crate) fn run_forest<G: Ledger>(
 }
 
 /// The streams after the first `count`.
-fn after(streams: &[Stream], count: usize) -> &[Stream]
+pub(crate) fn after(streams: &[Stream], count: usize) -> &[Stream]
     requires { count ≤ length streams.now }
     ensures { result.now ≡ drop count streams.now }
 {

@@ -1,5 +1,4 @@
-ghost use Rattle.std.specs.Prelude.{◌≡◌, ◌≤◌, ◌+◌, ◌^◌, true, false, [], ◌∷◌, IfOk, OnOk, OnErr, IsErr, IsOk, IsTrue};
-ghost use Rattle.ev_types.specs.declared.event.Event.{Event as OneEvent};
+ghost use Rattle.std.specs.Prelude.{◌≡◌, ◌≢◌, ◌≤◌, ◌+◌, ◌^◌, true, false, [], ◌∷◌, IfOk, OnOk, OnErr, IsErr, IsOk, IsTrue};
 ghost use Rattle.ev_types.specs.declared.item.Item.TheVariants.{One};
 ghost use Rattle.ev_types.specs.declared.item.Output.TheVariants.{Write};
 ghost use Rattle.stream_meaning.specs.declared.entry.Entry.TheVariants.{Tick, Item as In};
@@ -8,13 +7,15 @@ ghost use Rattle.stream_meaning.specs.Deadlines.{plan_deadline};
 ghost use Rattle.stream_meaning.specs.Outputs.{Put, plan_effects};
 ghost use Rattle.list_laws.specs.Prefix.{IsPrefix};
 ghost use Rattle.stream_tree.specs.Tree.{plan_of, is_poisoned, Represents, with_write, Performs, PerformsPart};
-ghost use Rattle.stream_tree.specs.Unseen.{is_one_index};
+ghost use Rattle.stream_tree.specs.Unseen.{plan_unseen};
 
 use crate::forest::{Forest, fresh_forest};
 use crate::give::{is_alone, offer_forest};
 use crate::next::forest_due;
 use crate::run::run_forest;
+use crate::unseen::{Unseen, forest_unseen, may_be_unseen};
 use ev_types::{Event, Memory, Outputs};
+use event_fields::EventFields;
 use std::alloc::Global;
 use step_count::{Ledger, Steps};
 use stream_meaning::Entry;
@@ -104,22 +105,29 @@ impl Tree {
         Ok(is_write_due)
     }
 
-    /// An event comes to the streams, if none of them needs to see it. The answer is true where the only stream is an
-    /// `index`: the write of the event, whichever it is, is left to the caller, as [`Tree::offer`] may leave it. Else
-    /// the answer is false, and nothing has come to the streams. `Memory`: the tree is poisoned.
+    /// An event comes to the streams, if its fields say what they do with it. They do nothing, or they write the event,
+    /// whose write is left to the caller, as [`Tree::offer`] may leave it. If the event itself is needed, nothing has
+    /// come to the streams. `Memory`: the tree is poisoned.
     #[inline]
-    pub fn offer_unseen(&mut self) -> Result<bool, Memory>
+    pub fn offer_fields<E: EventFields>(
+        &mut self,
+        alloc: Global,
+        event: &E,
+    ) -> Result<Unseen, Memory>
         ensures plan { plan_of self.new ≡ plan_of self.old }
-        ensures answer { IfOk result (λ is_write_due.
-            is_write_due ≡ is_one_index (plan_of self.old)) }
-        ensures effects { IfOk result (λ is_write_due. is_write_due ≡ true →
-            (h : History) (event : OneEvent) →
-            plan_effects (plan_of self.old) (h ▸ In (One event)) ≡ Put (Write event) ∷ []) }
-        ensures represents { IfOk result (λ is_write_due. is_write_due ≡ true →
-            (h : History) (event : OneEvent) → Represents self.old h →
-            Represents self.new (h ▸ In (One event))) }
-        ensures unchanged { IfOk result (λ is_write_due. is_write_due ≡ false →
-            self.new ≡ self.old) }
+        ensures answer { IfOk result (λ unseen. (h : History) → Represents self.old h →
+            unseen ≡ plan_unseen (plan_of self.old) (E.event event.now)) }
+        ensures nothing { IfOk result (λ unseen. unseen ≡ Unseen.Nothing →
+            (h : History) → Represents self.old h →
+            plan_effects (plan_of self.old) (h ▸ In (One (E.event event.now))) ≡ []) }
+        ensures write { IfOk result (λ unseen. unseen ≡ Unseen.Write →
+            (h : History) → Represents self.old h →
+            plan_effects (plan_of self.old) (h ▸ In (One (E.event event.now)))
+            ≡ Put (Write (E.event event.now)) ∷ []) }
+        ensures represents { IfOk result (λ unseen. unseen ≢ Unseen.Needed →
+            (h : History) → Represents self.old h →
+            Represents self.new (h ▸ In (One (E.event event.now)))) }
+        ensures unchanged { OnOk result (self.new ≡ self.old) }
         ensures poisoned { IsTrue (is_poisoned self.old) → IsErr result }
         ensures err { OnErr result (IsTrue (is_poisoned self.new)) }
         ensures sound { OnOk result (is_poisoned self.new ≡ false) }
@@ -127,7 +135,32 @@ impl Tree {
         if self.poisoned {
             return Err(Memory);
         }
-        Ok(is_alone(&self.plan.plan().streams))
+        if is_alone(&self.plan.plan().streams) {
+            return Ok(Unseen::Write);
+        }
+        let unseen = self.look_at(alloc, event)?;
+        Ok(unseen)
+    }
+
+    /// What the streams do with the event, if its fields say it. `Memory`: the tree is poisoned.
+    fn look_at<E: EventFields>(&mut self, alloc: Global, event: &E) -> Result<Unseen, Memory>
+        ensures plan { plan_of self.new ≡ plan_of self.old }
+        ensures answer { IfOk result (λ unseen. (h : History) → Represents self.old h →
+            unseen ≡ plan_unseen (plan_of self.old) (E.event event.now)) }
+        ensures unchanged { OnOk result (self.new ≡ self.old) }
+        ensures err { OnErr result (IsTrue (is_poisoned self.new)) }
+    {
+        let streams = &self.plan.plan().streams;
+        if !may_be_unseen(streams) {
+            return Ok(Unseen::Needed);
+        }
+        match forest_unseen(alloc, streams, &self.forest, self.plan.patterns(), event) {
+            Ok(unseen) => Ok(unseen),
+            Err(Memory) => {
+                self.poisoned = true;
+                Err(Memory)
+            }
+        }
     }
 
     /// One more second has passed, and it is the moment `now`. The outputs of the streams are appended to `out`. Only

@@ -1,4 +1,3 @@
-use Rattle.std.proofs.Common.{◌≡◌, ◌++◌}
 use Rattle.std.proofs.lemmas.Result.{err_from_is_err_and}
 use Rattle.msg_replies.specs.Arriving.{reported}
 use Rattle.msg_replies.proofs.AnswerLaws.{on_ok}
