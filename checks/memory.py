@@ -498,11 +498,13 @@ def served(program, library, folder, command, kind, at):
         _, err = server.communicate(timeout=PATIENCE)
     finally:
         server.kill()
-    went_on, broken = server.returncode == -signal.SIGTERM, sum(it.is_broken for it in clients)
+    # The signal may come after the last line of a server that is ending.
+    was_stopped, broken = server.returncode == -signal.SIGTERM, sum(it.is_broken for it in clients)
+    went_on = was_stopped and (err == b"" or err not in ENDINGS.values())
     is_well = all(is_prefix(it.got, 3 * OK) for it in clients)
     if went_on:
         is_well = is_well and broken <= 1 and err == b""
-    else:
+    elif not was_stopped:
         is_well = is_well and err == ENDINGS.get(server.returncode)
     if command != "serve":
         is_well = is_well and is_kept(folder, before, len(clients[0].got) // len(OK))
