@@ -18,4 +18,5 @@ pub mod ForestLaws
 pub mod BareLoop
 pub mod FreshLaws
 pub mod NextLaws
+pub mod NoPatternLaws
 pub mod UnseenLaws

@@ -19,7 +19,6 @@ use Rattle.stream_meaning.specs.History.{History, ◌▸◌, begun}
 use Rattle.stream_meaning.specs.Outputs.{Effect, BranchEffects, at_emissions, received_more}
 use Rattle.stream_meaning.proofs.KeptEvents.{all-weaker}
 use Rattle.stream_meaning.proofs.MomentLaws.{after_emissions-moments}
-use Rattle.stream_step.specs.declared.passed.Branch.TheVariants as code
 use Rattle.stream_tree.specs.declared.forest.Forest.{Forest}
 use Rattle.stream_tree.specs.declared.forest.Node.{Node}
 use Rattle.stream_tree.specs.Ends.{idle_by}

@@ -5,6 +5,7 @@ ghost use Rattle.stream_meaning.specs.declared.entry.Entry.TheVariants.{Tick, It
 ghost use Rattle.stream_meaning.specs.History.{History, ◌▸◌, begun, moment_of, TicksAlone};
 ghost use Rattle.stream_meaning.specs.Deadlines.{plan_deadline};
 ghost use Rattle.stream_meaning.specs.Outputs.{Put, plan_effects};
+ghost use Rattle.stream_plan.specs.Ready.{plan_patterns};
 ghost use Rattle.list_laws.specs.Prefix.{IsPrefix};
 ghost use Rattle.stream_tree.specs.Tree.{plan_of, is_poisoned, Represents, with_write, Performs, PerformsPart};
 ghost use Rattle.stream_tree.specs.Unseen.{plan_unseen};
@@ -107,7 +108,7 @@ impl Tree {
 
     /// An event comes to the streams, if its fields say what they do with it. They do nothing, or they write the event,
     /// whose write is left to the caller, as [`Tree::offer`] may leave it. If the event itself is needed, nothing has
-    /// come to the streams. `Memory`: the tree is poisoned.
+    /// come to the streams. If no stream has a regular expression, it takes no memory. `Memory`: the tree is poisoned.
     #[inline]
     pub fn offer_fields<E: EventFields>(
         &mut self,
@@ -128,6 +129,8 @@ impl Tree {
             (h : History) → Represents self.old h →
             Represents self.new (h ▸ In (One (E.event event.now)))) }
         ensures unchanged { OnOk result (self.new ≡ self.old) }
+        ensures memory { plan_patterns (plan_of self.old) ≡ [] →
+            is_poisoned self.old ≡ false → IsOk result }
         ensures poisoned { IsTrue (is_poisoned self.old) → IsErr result }
         ensures err { OnErr result (IsTrue (is_poisoned self.new)) }
         ensures sound { OnOk result (is_poisoned self.new ≡ false) }
@@ -148,6 +151,7 @@ impl Tree {
         ensures answer { IfOk result (λ unseen. (h : History) → Represents self.old h →
             unseen ≡ plan_unseen (plan_of self.old) (E.event event.now)) }
         ensures unchanged { OnOk result (self.new ≡ self.old) }
+        ensures memory { plan_patterns (plan_of self.old) ≡ [] → IsOk result }
         ensures err { OnErr result (IsTrue (is_poisoned self.new)) }
     {
         let streams = &self.plan.plan().streams;

@@ -1,8 +1,9 @@
 //! What streams do with an event, if its fields say it.
-ghost use Rattle.std.specs.Prelude.{◌≡◌, ℕ, ◌≤◌, false, List, drop, length, IfOk};
+ghost use Rattle.std.specs.Prelude.{◌≡◌, ℕ, ◌≤◌, false, List, [], drop, length, IfOk, IsOk};
 ghost use Rattle.ev_types.specs.declared.event.Event.{Event as OneEvent};
 ghost use Rattle.pred_eval.specs.Search.{AreReadFrom};
 ghost use Rattle.stream_meaning.specs.History.{History};
+ghost use Rattle.stream_plan.specs.Ready.{stream_patterns, plan_patterns};
 ghost use Rattle.stream_plan.specs.Search.{opened};
 ghost use Rattle.stream_plan.specs.Tree.{kind_tree, list_trees};
 ghost use Rattle.stream_tree.specs.Forest.{nodes_of, AllBare, NodeRepresents, ForestRepresents};
@@ -71,10 +72,11 @@ pub(crate) fn forest_unseen<E: EventFields>(
     patterns: &[Finder],
     event: &E,
 ) -> Result<Unseen, Memory>
-    ensures { IfOk result (λ unseen. (texts : List (List ℕ)) (h : History) →
+    ensures answer { IfOk result (λ unseen. (texts : List (List ℕ)) (h : History) →
         AreReadFrom texts patterns.now →
         ForestRepresents texts (list_trees streams.now) (nodes_of forest.now) h →
         unseen ≡ plan_unseen (list_trees streams.now) (E.event event.now)) }
+    ensures memory { plan_patterns (list_trees streams.now) ≡ [] → IsOk result }
 {
     let count = streams.len().min(forest.nodes.len());
     let mut unseen = Unseen::Nothing;
@@ -96,10 +98,11 @@ fn node_unseen<E: EventFields>(
     patterns: &[Finder],
     event: &E,
 ) -> Result<Unseen, Memory>
-    ensures { IfOk result (λ unseen. (texts : List (List ℕ)) (h : History) →
+    ensures answer { IfOk result (λ unseen. (texts : List (List ℕ)) (h : History) →
         AreReadFrom texts patterns.now →
         NodeRepresents texts (opened stream.now) node.now h →
         unseen ≡ stream_unseen (opened stream.now) (E.event event.now)) }
+    ensures memory { stream_patterns (opened stream.now) ≡ [] → IsOk result }
 {
     match &stream.kind {
         Kind::Index => Ok(Unseen::Write),
