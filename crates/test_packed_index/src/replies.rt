@@ -3,12 +3,12 @@ ghost use Rattle.pred_eval.specs.Tree.{Always};
 
 use ev_types::{Blob, Event, Events, Memory};
 use live_index::PackedIndex;
-use packed_event::PackedRef;
+use packed_event::{PackedEvent, PackedRef};
 use pred_eval::{Pred, RegexPatterns, Rule};
 use std::alloc::Global;
 use std::test::Fail;
 use step_count::{NoLedger, Steps};
-use stored_event::{found_len, write_lent};
+use stored_event::{Stored, found_len, write_lent};
 
 /// An event's bytes, whether it is written as an event that owns its parts, and the reply with all events after it.
 type Row = (&'static [u8], bool, &'static [u8]);
@@ -66,12 +66,16 @@ fn write(alloc: Global, index: &mut PackedIndex, bytes: &[u8], owned: bool) -> R
     let Some(event) = PackedRef::of(bytes) else {
         return Err(Memory);
     };
-    if !owned {
-        return index.put_packed(alloc, &event);
+    if owned {
+        index.write(alloc, unpacked(alloc, &event)?)
+    } else {
+        index.put_packed(alloc, &event)
     }
-    let mut unpacked = Event::at(alloc, 0);
-    event.unpack_into(alloc, &mut unpacked)?;
-    index.write(alloc, unpacked)
+}
+
+/// The event, which owns its parts.
+fn unpacked(alloc: Global, event: &PackedRef<'_>) -> Result<Event, Memory> {
+    PackedEvent::copy_of(alloc, event)?.unpack(alloc)
 }
 
 /// The predicate that every event meets.
@@ -84,17 +88,47 @@ fn always(alloc: Global) -> Result<Pred, Memory>
     }
 }
 
+/// How long the index counts the reply with all events.
+fn counted_len(alloc: Global, index: &mut PackedIndex) -> Result<usize, Memory> {
+    let mut pred = always(alloc)?;
+    index.all_len(alloc, &mut pred, &mut Steps::fresh(NoLedger))
+}
+
+/// Whether the reply with these events is written so.
+fn is_written(
+    alloc: Global,
+    events: &[&Stored<PackedEvent>],
+    wanted: &[u8],
+) -> Result<bool, Memory> {
+    let mut reply = Blob::fresh(alloc);
+    write_lent(alloc, events, &mut reply)?;
+    Ok(reply.as_slice() == wanted)
+}
+
+/// Whether the reply with these events is this one, and its length is known.
+fn is_reply_of(
+    alloc: Global,
+    events: &[&Stored<PackedEvent>],
+    wanted: &[u8],
+) -> Result<bool, Memory> {
+    let len = found_len(events)?;
+    let written = is_written(alloc, events, wanted)?;
+    Ok(written && len == wanted.len())
+}
+
+/// Whether the reply with all events that are found is this one.
+fn is_found(alloc: Global, index: &PackedIndex, wanted: &[u8]) -> Result<bool, Memory> {
+    let mut pred = always(alloc)?;
+    let mut found = Vec::new(alloc);
+    index.find(alloc, &mut pred, &mut found, &mut Steps::fresh(NoLedger))?;
+    is_reply_of(alloc, found.as_slice(), wanted)
+}
+
 /// Whether the reply with all events is this one, and its length is known.
 fn is_replied(alloc: Global, index: &mut PackedIndex, wanted: &[u8]) -> Result<bool, Memory> {
-    let mut pred = always(alloc)?;
-    let mut steps = Steps::fresh(NoLedger);
-    let len = index.all_len(alloc, &mut pred, &mut steps)?;
-    let mut found = Vec::new(alloc);
-    index.find(alloc, &mut pred, &mut found, &mut steps)?;
-    let mut reply = Blob::fresh(alloc);
-    write_lent(alloc, found.as_slice(), &mut reply)?;
-    let again = found_len(found.as_slice())?;
-    Ok(reply.as_slice() == wanted && len == wanted.len() && again == len)
+    let len = counted_len(alloc, index)?;
+    let found = is_found(alloc, index, wanted)?;
+    Ok(found && len == wanted.len())
 }
 
 /// Whether the reply is as wanted after each event.
@@ -116,18 +150,41 @@ fn events_are_replied_as_they_were_written(rt: HostRuntime) -> Result<(), Fail> 
     Ok(())
 }
 
+/// How many events a search copies.
+fn copied(alloc: Global, index: &mut PackedIndex) -> Result<usize, Memory> {
+    let mut pred = always(alloc)?;
+    let mut copied = Events::fresh(alloc);
+    index.search(alloc, &mut pred, &mut copied, &mut Steps::fresh(NoLedger))?;
+    Ok(copied.as_slice().len())
+}
+
+/// How many events have expired at the second 100, and are removed.
+fn expired(alloc: Global, index: &mut PackedIndex) -> Result<usize, Memory> {
+    let mut expired = Events::fresh(alloc);
+    index.reap(alloc, 100, &mut expired, &mut Steps::fresh(NoLedger))?;
+    Ok(expired.as_slice().len())
+}
+
+/// A packed event, and one that owns its parts.
+const BOTH: &[(&[u8], bool)] = &[
+    (b"\x08\x01\x1a\x01s\x22\x01a", false),
+    (b"\x08\x01\x1a\x01t\x22\x01a", true),
+];
+
+fn write_both(alloc: Global, index: &mut PackedIndex) -> Result<(), Memory> {
+    for (bytes, owned) in BOTH {
+        write(alloc, index, bytes, *owned)?;
+    }
+    Ok(())
+}
+
 /// How many events are copied by a search, and are then expired.
 fn copied_and_expired(alloc: Global) -> Result<(usize, usize), Memory> {
     let mut index = PackedIndex::fresh(alloc);
-    write(alloc, &mut index, b"\x08\x01\x1a\x01s\x22\x01a", false)?;
-    write(alloc, &mut index, b"\x08\x01\x1a\x01t\x22\x01a", true)?;
-    let mut pred = always(alloc)?;
-    let mut steps = Steps::fresh(NoLedger);
-    let mut copied = Events::fresh(alloc);
-    index.search(alloc, &mut pred, &mut copied, &mut steps)?;
-    let mut expired = Events::fresh(alloc);
-    index.reap(alloc, 100, &mut expired, &mut steps)?;
-    Ok((copied.as_slice().len(), expired.as_slice().len()))
+    write_both(alloc, &mut index)?;
+    let copied = copied(alloc, &mut index)?;
+    let expired = expired(alloc, &mut index)?;
+    Ok((copied, expired))
 }
 
 #[test]
