@@ -1,6 +1,7 @@
 use crate::packed::{FULL, LAST};
 use ev_types::Event;
 use packed_event::{PackedEvent, PackedRef};
+use std::alloc::Global;
 use std::test::Fail;
 
 #[test]
@@ -23,17 +24,20 @@ fn parts_are_lent_from_the_bytes(rt: HostRuntime) -> Result<(), Fail> {
     Ok(())
 }
 
+/// Whether the event that these bytes are unpacked into is packed as they are.
+fn is_unpacked(alloc: Global, event: &mut Event, bytes: &[u8]) -> Result<bool, Fail> {
+    let packed = PackedRef::of(bytes).ok_or("the bytes are written otherwise")?;
+    packed.unpack_into(alloc, event)?;
+    let again = PackedEvent::pack(alloc, event)?;
+    Ok(again.bytes() == bytes)
+}
+
 #[test]
 fn an_event_is_used_again(rt: HostRuntime) -> Result<(), Fail> {
-    let alloc = rt.alloc();
-    let (Some(full), Some(last)) = (PackedRef::of(FULL), PackedRef::of(LAST)) else {
-        assert!(rt; false);
-        return Ok(());
-    };
-    let mut event = Event::at(alloc, 5);
-    full.unpack_into(alloc, &mut event)?;
-    assert!(rt; PackedEvent::pack(alloc, &event)?.bytes() == FULL);
-    last.unpack_into(alloc, &mut event)?;
-    assert!(rt; PackedEvent::pack(alloc, &event)?.bytes() == LAST);
+    let mut event = Event::at(rt.alloc(), 5);
+    let unpacked = is_unpacked(rt.alloc(), &mut event, FULL)?;
+    assert!(rt; unpacked);
+    let unpacked = is_unpacked(rt.alloc(), &mut event, LAST)?;
+    assert!(rt; unpacked);
     Ok(())
 }

@@ -11,12 +11,10 @@ pub(crate) const FULL: &[u8] =
 /// An event that ends that of its service.
 pub(crate) const LAST: &[u8] = b"\x08\x80\x01\x12\x07expired\x1a\x01s";
 
-/// The event of these bytes, if they are those that this server writes.
-pub(crate) fn packed(alloc: Global, bytes: &[u8]) -> Result<Option<PackedEvent>, Memory> {
-    let Some(event) = PackedRef::of(bytes) else {
-        return Ok(None);
-    };
-    Ok(Some(PackedEvent::copy_of(alloc, &event)?))
+/// The event of these bytes, which are as this server writes them.
+pub(crate) fn packed(alloc: Global, bytes: &[u8]) -> Result<PackedEvent, Fail> {
+    let event = PackedRef::of(bytes).ok_or("the bytes are written otherwise")?;
+    Ok(PackedEvent::copy_of(alloc, &event)?)
 }
 
 /// Whether the event is then that of these bytes.
@@ -36,10 +34,6 @@ fn is_refused(alloc: Global, event: &Event) -> bool {
 #[test]
 fn parts_are_those_of_the_bytes(rt: HostRuntime) -> Result<(), Fail> {
     let full = packed(rt.alloc(), FULL)?;
-    let Some(full) = full else {
-        assert!(rt; false);
-        return Ok(());
-    };
     assert!(rt; full.host() == Some("a"));
     assert!(rt; full.service() == Some("bb"));
     assert!(rt; full.time() == 1);
@@ -48,50 +42,68 @@ fn parts_are_those_of_the_bytes(rt: HostRuntime) -> Result<(), Fail> {
     assert!(rt; !full.is_expired(61));
     assert!(rt; full.is_expired(62));
     assert!(rt; full.reply_len() == FULL.len() + 2);
-    let last = packed(rt.alloc(), LAST)?;
-    let Some(last) = last else {
-        assert!(rt; false);
-        return Ok(());
-    };
-    assert!(rt; last.host().is_none());
-    assert!(rt; last.ttl().is_none());
-    assert!(rt; last.ends_key());
-    assert!(rt; !last.is_same(&full));
     Ok(())
 }
 
 #[test]
+fn parts_that_are_absent_are_not_read(rt: HostRuntime) -> Result<(), Fail> {
+    let last = packed(rt.alloc(), LAST)?;
+    assert!(rt; last.host().is_none());
+    assert!(rt; last.ttl().is_none());
+    assert!(rt; last.ends_key());
+    Ok(())
+}
+
+#[test]
+fn other_bytes_are_not_the_same(rt: HostRuntime) -> Result<(), Fail> {
+    let full = packed(rt.alloc(), FULL)?;
+    let last = packed(rt.alloc(), LAST)?;
+    assert!(rt; !last.is_same(&full));
+    Ok(())
+}
+
+/// The event, after it was unpacked and packed.
+fn repacked(alloc: Global, event: &PackedEvent) -> Result<PackedEvent, Fail> {
+    let event = event.unpack(alloc)?;
+    Ok(PackedEvent::pack(alloc, &event)?)
+}
+
+#[test]
 fn an_event_is_packed_as_it_is_written(rt: HostRuntime) -> Result<(), Fail> {
-    let alloc = rt.alloc();
-    let full = packed(alloc, FULL)?;
-    let Some(mut full) = full else {
-        assert!(rt; false);
-        return Ok(());
-    };
-    let event = full.unpack(alloc)?;
-    let again = PackedEvent::pack(alloc, &event)?;
+    let full = packed(rt.alloc(), FULL)?;
+    let again = repacked(rt.alloc(), &full)?;
     assert!(rt; again.bytes() == FULL);
     assert!(rt; again.is_same(&full));
-    let mut reply = Blob::fresh(alloc);
-    full.put_into(alloc, &mut reply)?;
+    Ok(())
+}
+
+#[test]
+fn an_event_is_replied_as_it_is_written(rt: HostRuntime) -> Result<(), Fail> {
+    let full = packed(rt.alloc(), FULL)?;
+    let mut reply = Blob::fresh(rt.alloc());
+    full.put_into(rt.alloc(), &mut reply)?;
     assert!(rt; reply.len() == full.reply_len());
     assert!(rt; reply.as_slice().starts_with(b"\x32\x3b\x08\x01"));
-    let bare = Event::at(alloc, 1);
-    full.pack_again(alloc, &bare)?;
-    assert!(rt; full.bytes() == b"\x08\x01".as_slice());
+    Ok(())
+}
+
+#[test]
+fn another_event_is_packed_in_the_block_of_one(rt: HostRuntime) -> Result<(), Fail> {
+    let mut event = packed(rt.alloc(), FULL)?;
+    let bare = Event::at(rt.alloc(), 1);
+    event.pack_again(rt.alloc(), &bare)?;
+    assert!(rt; event.bytes() == b"\x08\x01".as_slice());
     Ok(())
 }
 
 #[test]
 fn a_block_is_used_again(rt: HostRuntime) -> Result<(), Fail> {
-    let full = packed(rt.alloc(), FULL)?;
-    let Some(mut event) = full else {
-        assert!(rt; false);
-        return Ok(());
-    };
-    assert!(rt; is_copied(&mut event, LAST)?);
+    let mut event = packed(rt.alloc(), FULL)?;
+    let copied = is_copied(&mut event, LAST)?;
+    assert!(rt; copied);
     assert!(rt; event.service() == Some("s"));
-    assert!(rt; is_copied(&mut event, FULL)?);
+    let copied = is_copied(&mut event, FULL)?;
+    assert!(rt; copied);
     assert!(rt; event.service() == Some("bb"));
     Ok(())
 }
