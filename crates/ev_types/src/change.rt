@@ -77,13 +77,22 @@ pub fn all_fit(sets: &Sets) -> bool
 pub fn fits(field: &Field, value: &Value) -> bool
     ensures { result ≡ fits field.now value.now }
 {
-    match (field, value) {
-        (Field::Time, Value::Nil) => false,
-        (_, Value::Nil) => true,
-        (Field::Time | Field::Metric, Value::Number(_)) => true,
-        (Field::Ttl, Value::Number(ttl)) => 0 <= *ttl && *ttl <= MAX_TTL,
-        (_, Value::Number(_)) => false,
-        (field, Value::Text(_)) => !matches!(field, Field::Time | Field::Ttl | Field::Metric),
+    match field {
+        Field::Time => matches!(value, Value::Number(_)),
+        Field::Ttl => fits_ttl(value),
+        Field::Metric => !matches!(value, Value::Text(_)),
+        _ => !matches!(value, Value::Number(_)),
+    }
+}
+
+// Whether the value is nil or a number of seconds from 0 to MAX_TTL.
+fn fits_ttl(value: &Value) -> bool
+    ensures { result ≡ fits_ttl value.now }
+{
+    match value {
+        Value::Nil => true,
+        Value::Number(ttl) => 0 <= *ttl && *ttl <= MAX_TTL,
+        Value::Text(_) => false,
     }
 }
 
