@@ -1,23 +1,25 @@
 -- The length of a spelling is the sum of the lengths of its fields. Each tag here is one byte.
 use Rattle.std.proofs.Common.{◌≡◌, ℕ, ℤ, Bool, true, false, ◌+◌, ◌*◌, ◌<◌, ◌≤◌, List, [], ◌∷◌, length, get_or, take}
-use Rattle.std.proofs.Common.{Some, refl, ap, ◌∙◌, arith, length-append}
+use Rattle.std.proofs.Common.{◌^◌, Some, refl, sym, subst, ap, ◌∙◌, arith, length-append}
 use Rattle.std.proofs.lemmas.Bool.{lt-ltb}
 use Rattle.std.proofs.lemmas.List.{append-nil}
 use denote.Ref.{Bor}
+use Rattle.std.specs.Prelude.{Result, Ok, Err, IfOk, OnErr}
 use Rattle.std.specs.Int.{w64, cast_unsigned, from_bool}
 use Rattle.ev_types.specs.declared.event.Attr.{Attr}
 use Rattle.ev_types.specs.declared.event.Event.{Event}
+use Rattle.ev_types.specs.Memory.{Memory}
 use Rattle.pb_wire.specs.Varint.{varint, spelled_within}
-use Rattle.pb_wire.specs.Spelling.{Varint, Eight, Bytes, Four, field_spelling, bytes_head}
+use Rattle.pb_wire.specs.Spelling.{Varint, Eight, Bytes, Four, field_spelling}
 use Rattle.riemann_msg.specs.declared.msg.Msg.{Msg}
 use Rattle.riemann_msg.specs.declared.msg.QueryPart.{QueryPart}
 use Rattle.riemann_msg.specs.Reply.{events_lent, found}
 use Rattle.riemann_msg.specs.Ttl.{bits_of}
-use Rattle.riemann_msg.specs.Spelling.{optional, repeated, spelled, int64, sint64, zigzag, attribute_values}
+use Rattle.riemann_msg.specs.Spelling.{Counts, optional, repeated, spelled, int64, sint64, zigzag, attribute_values}
 use Rattle.riemann_msg.specs.Spelling.{attribute_content, name_values, number_values, event_values, event_content}
 use Rattle.riemann_msg.specs.Spelling.{query_values, query_content, spelling}
-use Rattle.riemann_msg.proofs.Spelled.{found_spelled, lent_at, lent_so_far, lent_within, embedded, next_tag}
-use Rattle.riemann_msg.proofs.Spelled.{next_attribute, next_event, some_tags, some_attributes, some_events}
+use Rattle.riemann_msg.proofs.Spelled.{found_spelled, lent_at, lent_so_far, lent_within, next_tag}
+use Rattle.riemann_msg.proofs.Spelled.{next_attribute, next_event}
 use Rattle.riemann_msg.proofs.Spelled.{message_spelled, event_spelled, names_spelled, numbers_spelled}
 use Rattle.riemann_msg.proofs.Spelled.{attribute_spelled}
 
@@ -87,6 +89,17 @@ query_length query = text_length 5 (spelled (query_values query)) (omega arith)
 
 -- ---- sums
 
+pub counted_as : (counted : Result ℕ Memory) (n m : ℕ) → n ≡ m → Counts counted m → Counts counted n
+counted_as counted n m is counts = subst (λ (k : ℕ). Counts counted k) (sym is) counts
+
+pub where_counted : (counted : Result ℕ Memory) (n : ℕ) → Counts counted n → IfOk counted (λ m. m ≡ n)
+where_counted (Ok m) n is = is
+where_counted (Err memory) n much = tt
+
+pub where_too_long : (counted : Result ℕ Memory) (n : ℕ) → Counts counted n → OnErr counted (2 ^ 64 ≤ n)
+where_too_long (Ok m) n is = tt
+where_too_long (Err memory) n much = much
+
 pub message_length : (msg : Msg)
     → length (spelling msg)
     ≡ length (spelled (optional 2 (λ ok. Varint (from_bool ok)) msg.ok))
@@ -94,12 +107,27 @@ pub message_length : (msg : Msg)
     + (length (spelled (optional 5 query_content msg.query)) + length (spelled (repeated 6 event_content msg.events))))
 message_length msg = ap length (message_spelled msg) ∙ simp length-append
 
+pub message_in_parts : (msg : Msg)
+    → length (spelling msg)
+    ≡ length (spelled (optional 2 (λ ok. Varint (from_bool ok)) msg.ok))
+    + (length (spelled (optional 3 Bytes msg.error)) + length (spelled (optional 5 query_content msg.query)))
+    + length (spelled (repeated 6 event_content msg.events))
+message_in_parts msg = omega (arith, message_length msg)
+
 pub event_length : (event : Event)
     → length (spelled (event_values event))
     ≡ length (spelled (name_values event)) + (length (spelled (repeated 7 Bytes event.tags))
     + (length (spelled (optional 8 (λ ttl. Four (bits_of ttl)) event.ttl))
     + (length (spelled (repeated 9 attribute_content event.attributes)) + length (spelled (number_values event)))))
 event_length event = ap length (event_spelled event) ∙ simp length-append
+
+pub event_in_parts : (event : Event)
+    → length (spelled (event_values event))
+    ≡ length (spelled (name_values event))
+    + (length (spelled (repeated 7 Bytes event.tags))
+    + length (spelled (repeated 9 attribute_content event.attributes)))
+    + (length (spelled (optional 8 (λ ttl. Four (bits_of ttl)) event.ttl)) + length (spelled (number_values event)))
+event_in_parts event = omega (arith, event_length event)
 
 pub names_length : (event : Event)
     → length (spelled (name_values event))
@@ -109,6 +137,13 @@ pub names_length : (event : Event)
 names_length event =
     ap length (names_spelled event)
     ∙ simp length-append (omega (arith, varint_length 1 (cast_unsigned w64 event.time) (omega arith)))
+
+pub names_in_parts : (event : Event)
+    → length (spelled (name_values event))
+    ≡ (1 + length (varint (cast_unsigned w64 event.time)))
+    + (length (spelled (optional 2 Bytes event.state)) + length (spelled (optional 3 Bytes event.service))
+    + (length (spelled (optional 4 Bytes event.host)) + length (spelled (optional 5 Bytes event.description))))
+names_in_parts event = omega (arith, names_length event)
 
 pub numbers_length : (event : Event)
     → length (spelled (number_values event))
@@ -132,11 +167,6 @@ pub longer_tags : (tags : List (List ℕ)) (i : ℕ) (tag : List ℕ) → i < le
 longer_tags tags i tag inside is =
     ap length (next_tag tags i tag inside is) ∙ simp length-append (omega (arith, small_head 7 tag (omega arith)))
 
-pub fewer_tags : (tags : List (List ℕ)) (i : ℕ) (tag : List ℕ) → i < length tags → tag ≡ get_or tags i tag
-    → length (spelled (repeated 7 Bytes (take i tags))) + (1 + (length (varint (length tag)) + length tag))
-    ≤ length (spelled (repeated 7 Bytes tags))
-fewer_tags tags i tag inside is = omega (arith, some_tags tags i tag inside is, small_head 7 tag (omega arith))
-
 pub longer_attributes : (attributes : List Attr) (i : ℕ) (attribute : Attr) → i < length attributes
     → attribute ≡ get_or attributes i attribute
     → length (spelled (repeated 9 attribute_content (take (i + 1) attributes)))
@@ -144,45 +174,16 @@ pub longer_attributes : (attributes : List Attr) (i : ℕ) (attribute : Attr) �
     + (1
     + (length (varint (length (spelled (attribute_values attribute)))) + length (spelled (attribute_values attribute))))
 longer_attributes attributes i attribute inside is =
-    ap length (next_attribute attributes i attribute inside is) ∙ simp length-append (omega (
-      arith,
-      small_head 9 (spelled (attribute_values attribute)) (omega arith),
-      ap length (embedded 9 (spelled (attribute_values attribute))),
-      length-append (bytes_head 9 (length (spelled (attribute_values attribute))))
-          (spelled (attribute_values attribute)),
-    ))
-
-pub fewer_attributes : (attributes : List Attr) (i : ℕ) (attribute : Attr) → i < length attributes
-    → attribute ≡ get_or attributes i attribute
-    → length (spelled (repeated 9 attribute_content (take i attributes)))
-    + (1
-    + (length (varint (length (spelled (attribute_values attribute)))) + length (spelled (attribute_values attribute))))
-    ≤ length (spelled (repeated 9 attribute_content attributes))
-fewer_attributes attributes i attribute inside is =
-    omega (
-      arith,
-      some_attributes attributes i attribute inside is,
-      small_head 9 (spelled (attribute_values attribute)) (omega arith),
-    )
+    ap length (next_attribute attributes i attribute inside is)
+    ∙ simp length-append (omega (arith, small_head 9 (spelled (attribute_values attribute)) (omega arith)))
 
 pub longer_events : (events : List Event) (i : ℕ) (event : Event) → i < length events → event ≡ get_or events i event
     → length (spelled (repeated 6 event_content (take (i + 1) events)))
     ≡ length (spelled (repeated 6 event_content (take i events)))
     + (1 + (length (varint (length (spelled (event_values event)))) + length (spelled (event_values event))))
 longer_events events i event inside is =
-    ap length (next_event events i event inside is) ∙ simp length-append (omega (
-      arith,
-      small_head 6 (spelled (event_values event)) (omega arith),
-      ap length (embedded 6 (spelled (event_values event))),
-      length-append (bytes_head 6 (length (spelled (event_values event)))) (spelled (event_values event)),
-    ))
-
-pub fewer_events : (events : List Event) (i : ℕ) (event : Event) → i < length events → event ≡ get_or events i event
-    → length (spelled (repeated 6 event_content (take i events)))
-    + (1 + (length (varint (length (spelled (event_values event)))) + length (spelled (event_values event))))
-    ≤ length (spelled (repeated 6 event_content events))
-fewer_events events i event inside is =
-    omega (arith, some_events events i event inside is, small_head 6 (spelled (event_values event)) (omega arith))
+    ap length (next_event events i event inside is)
+    ∙ simp length-append (omega (arith, small_head 6 (spelled (event_values event)) (omega arith)))
 
 -- ---- events that are lent
 
@@ -194,15 +195,6 @@ pub longer_lent : (events : List (Bor Event)) (i : ℕ) (event : Bor Event) → 
 longer_lent events i event within is =
     rw (lent_so_far events (i + 1), lent_so_far events i)
     (longer_events (events_lent events) i event.now (lent_within events i within) (lent_at events i event within is))
-
-pub fewer_lent : (events : List (Bor Event)) (i : ℕ) (event : Bor Event) → i < length events
-    → event ≡ get_or events i event
-    → length (spelled (repeated 6 event_content (events_lent (take i events))))
-    + (1 + (length (varint (length (spelled (event_values event.now)))) + length (spelled (event_values event.now))))
-    ≤ length (spelled (repeated 6 event_content (events_lent events)))
-fewer_lent events i event within is =
-    rw (lent_so_far events i)
-    (fewer_events (events_lent events) i event.now (lent_within events i within) (lent_at events i event within is))
 
 pub found_length : (events : List Event)
     → length (spelling (found events))

@@ -1,11 +1,13 @@
 -- The bytes of fields are those of their parts, one after the other.
-use Rattle.std.proofs.Common.{◌≡◌, ℕ, ◌+◌, ◌*◌, ◌<◌, ◌≤◌, List, [], ◌∷◌, ◌++◌, length, length-append, get_or, take}
-use Rattle.std.proofs.Common.{drop, true, Some, refl, sym, ap, ◌∙◌, append_assoc, arith}
+use Rattle.std.proofs.Common.{◌≡◌, ℕ, ◌+◌, ◌*◌, ◌<◌, List, [], ◌∷◌, ◌++◌, length, get_or, take, true, Some, refl, sym}
+use Rattle.std.proofs.Common.{ap, ◌∙◌, append_assoc, arith}
 use Rattle.std.proofs.lemmas.Grind.{flat_map-append}
 use Rattle.std.proofs.lemmas.List.{append-nil, get_or-map, length-map, take_more, take-map, map-append}
-use Rattle.std.proofs.lemmas.List.{take-append-drop}
 use denote.Ref.{Bor}
 use Rattle.std.specs.Int.{from_bool}
+use Rattle.std.specs.Prelude.{Option, Result, Ok, Err, IsErrAnd, OnOk, OnErr}
+use Rattle.std.proofs.lemmas.Result.{on_ok_weaker}
+use Rattle.list_laws.specs.Prefix.{IsPrefix}
 use Rattle.ev_types.specs.declared.event.Attr.{Attr}
 use Rattle.ev_types.specs.declared.event.Event.{Event}
 use Rattle.pb_wire.specs.Varint.{varint}
@@ -37,6 +39,40 @@ pub grown5 : (o a b c d e x y z u v total : List ℕ) → a ≡ o ++ x → b ≡
     → total ≡ x ++ (y ++ (z ++ (u ++ v))) → e ≡ o ++ total
 grown5 o a b c d e x y z u v total p q r s t whole =
     grown4 o a b c e x y z (u ++ v) total p q r (grown2 c d e u v (u ++ v) s t refl) whole
+
+-- ---- where memory runs out
+
+pub not_written : {T E : Type 0} (Q : E → Type 0) (answer : Result T E) (P : Type 0) → IsErrAnd answer Q
+    → OnOk answer P
+not_written Q (Ok x) P h = absurd h
+not_written Q (Err e) P h = tt
+
+-- what was there before is still there: at the first call, or after calls that appended
+pub begins0 : {T E : Type 0} (answer : Result T E) (o new : List ℕ) → IsPrefix o new → OnErr answer (IsPrefix o new)
+begins0 (Ok x) o new h = tt
+begins0 (Err e) o new h = h
+
+pub begins1 : {T E : Type 0} (answer : Result T E) (o a new x : List ℕ) → a ≡ o ++ x → IsPrefix a new
+    → OnErr answer (IsPrefix o new)
+begins1 answer o a new x p (rest, is) =
+    begins0 answer o new (x ++ rest, is ∙ ap (λ (bytes : List ℕ). bytes ++ rest) p ∙ append_assoc o x rest)
+
+pub begins2 : {T E : Type 0} (answer : Result T E) (o a b new x y : List ℕ) → a ≡ o ++ x → b ≡ a ++ y
+    → IsPrefix b new → OnErr answer (IsPrefix o new)
+begins2 answer o a b new x y p q h = begins1 answer o b new (x ++ y) (grown2 o a b x y (x ++ y) p q refl) h
+
+pub begins3 : {T E : Type 0} (answer : Result T E) (o a b c new x y z : List ℕ) → a ≡ o ++ x → b ≡ a ++ y
+    → c ≡ b ++ z → IsPrefix c new → OnErr answer (IsPrefix o new)
+begins3 answer o a b c new x y z p q r h =
+    begins2 answer o b c new (x ++ y) z (grown2 o a b x y (x ++ y) p q refl) r h
+
+pub begins4 : {T E : Type 0} (answer : Result T E) (o a b c d new x y z u : List ℕ) → a ≡ o ++ x → b ≡ a ++ y
+    → c ≡ b ++ z → d ≡ c ++ u → IsPrefix d new → OnErr answer (IsPrefix o new)
+begins4 answer o a b c d new x y z u p q r s h =
+    begins3 answer o b c d new (x ++ y) z u (grown2 o a b x y (x ++ y) p q refl) r s h
+
+pub prefix_same : (o : List ℕ) → IsPrefix o o
+prefix_same o = ([], sym (append-nil o))
 
 -- ---- the fields of each message
 
@@ -75,11 +111,28 @@ pub numbers_spelled : (event : Event)
     ++ (spelled (optional 14 Eight event.raw_d) ++ spelled (optional 15 Four event.raw_f)))
 numbers_spelled event = simp (flat_map-append)
 
+-- a field that may be absent, and is there
+pub put_some : {A T E : Type 0} (answer : Result T E) (number : ℕ) (content : A → Content) (x : A) (value : Option A)
+    (old new : List ℕ) → value ≡ Some x → OnOk answer (new ≡ old ++ field_spelling number (content x))
+    → OnOk answer (new ≡ old ++ spelled (optional number content value))
+put_some answer number content x value old new is done =
+    rw is (on_ok_weaker answer
+    (λ (e : new ≡ old ++ field_spelling number (content x)).
+    e ∙ ap (λ (bytes : List ℕ). old ++ bytes) (sym (append-nil (field_spelling number (content x))))) done)
+
 pub attribute_spelled : (attribute : Attr)
     → spelled (attribute_values attribute)
     ≡ field_spelling 1 (Bytes attribute.key) ++ spelled (optional 2 Bytes attribute.value)
 unfolding attribute_values
 attribute_spelled attribute = refl
+
+pub attribute_embedded : (attribute : Attr)
+    → field_spelling 9 (attribute_content attribute)
+    ≡ bytes_head 9 (length (spelled (attribute_values attribute)))
+    ++ (field_spelling 1 (Bytes attribute.key) ++ spelled (optional 2 Bytes attribute.value))
+attribute_embedded attribute =
+    embedded 9 (spelled (attribute_values attribute))
+    ∙ ap (λ bytes. bytes_head 9 (length (spelled (attribute_values attribute))) ++ bytes) (attribute_spelled attribute)
 
 -- ---- one more item of a field that is written once for each
 
@@ -108,63 +161,18 @@ next_tag tags i tag inside is = next_item 7 Bytes tags i tag inside is
 pub next_attribute : (attributes : List Attr) (i : ℕ) (attribute : Attr) → i < length attributes
     → attribute ≡ get_or attributes i attribute
     → spelled (repeated 9 attribute_content (take (i + 1) attributes))
-    ≡ spelled (repeated 9 attribute_content (take i attributes))
-    ++ (bytes_head 9 (length (spelled (attribute_values attribute))) ++ spelled (attribute_values attribute))
-next_attribute attributes i attribute inside is =
-    next_item 9 attribute_content attributes i attribute inside is
-    ∙ ap (λ bytes. spelled (repeated 9 attribute_content (take i attributes)) ++ bytes)
-    (embedded 9 (spelled (attribute_values attribute)))
+    ≡ spelled (repeated 9 attribute_content (take i attributes)) ++ field_spelling 9 (attribute_content attribute)
+next_attribute attributes i attribute inside is = next_item 9 attribute_content attributes i attribute inside is
 
 pub next_event : (events : List Event) (i : ℕ) (event : Event) → i < length events → event ≡ get_or events i event
     → spelled (repeated 6 event_content (take (i + 1) events))
-    ≡ spelled (repeated 6 event_content (take i events))
-    ++ (bytes_head 6 (length (spelled (event_values event))) ++ spelled (event_values event))
-next_event events i event inside is =
-    next_item 6 event_content events i event inside is
-    ∙ ap (λ bytes. spelled (repeated 6 event_content (take i events)) ++ bytes)
-    (embedded 6 (spelled (event_values event)))
+    ≡ spelled (repeated 6 event_content (take i events)) ++ field_spelling 6 (event_content event)
+next_event events i event inside is = next_item 6 event_content events i event inside is
 
 pub query_spelled : (query : QueryPart)
     → spelled (optional 5 query_content (Some query))
     ≡ bytes_head 5 (length (spelled (query_values query))) ++ spelled (query_values query)
 query_spelled query = append-nil (field_spelling 5 (query_content query)) ∙ embedded 5 (spelled (query_values query))
-
--- ---- the items so far are no more than all of them
-
-some_items : {A : Type 0} (number : ℕ) (content : A → Content) (xs : List A) (i : ℕ) (x : A) → i < length xs
-    → x ≡ get_or xs i x
-    → length (spelled (repeated number content (take i xs))) + length (field_spelling number (content x))
-    ≤ length (spelled (repeated number content xs))
-some_items number content xs i x inside is =
-    let all : spelled (repeated number content (take (i + 1) xs)) ++ spelled (repeated number content (drop (i + 1) xs))
-    ≡ spelled (repeated number content xs) =
-    sym (repeated-append number content (take (i + 1) xs) (drop (i + 1) xs))
-    ∙ ap (λ ys. spelled (repeated number content ys)) (take-append-drop (i + 1) xs) in
-    omega (
-      arith,
-      ap length (next_item number content xs i x inside is),
-      ap length all,
-      length-append (spelled (repeated number content (take (i + 1) xs)))
-          (spelled (repeated number content (drop (i + 1) xs))),
-      length-append (spelled (repeated number content (take i xs))) (field_spelling number (content x)),
-    )
-
-pub some_tags : (tags : List (List ℕ)) (i : ℕ) (tag : List ℕ) → i < length tags → tag ≡ get_or tags i tag
-    → length (spelled (repeated 7 Bytes (take i tags))) + length (field_spelling 7 (Bytes tag))
-    ≤ length (spelled (repeated 7 Bytes tags))
-some_tags tags i tag inside is = some_items 7 Bytes tags i tag inside is
-
-pub some_attributes : (attributes : List Attr) (i : ℕ) (attribute : Attr) → i < length attributes
-    → attribute ≡ get_or attributes i attribute
-    → length (spelled (repeated 9 attribute_content (take i attributes)))
-    + length (field_spelling 9 (attribute_content attribute))
-    ≤ length (spelled (repeated 9 attribute_content attributes))
-some_attributes attributes i attribute inside is = some_items 9 attribute_content attributes i attribute inside is
-
-pub some_events : (events : List Event) (i : ℕ) (event : Event) → i < length events → event ≡ get_or events i event
-    → length (spelled (repeated 6 event_content (take i events))) + length (field_spelling 6 (event_content event))
-    ≤ length (spelled (repeated 6 event_content events))
-some_events events i event inside is = some_items 6 event_content events i event inside is
 
 -- ---- events that are lent
 
@@ -182,8 +190,7 @@ lent_so_far events i = sym (take-map (λ (e : Bor Event). e.now) i events)
 pub next_lent : (events : List (Bor Event)) (i : ℕ) (event : Bor Event) → i < length events
     → event ≡ get_or events i event
     → spelled (repeated 6 event_content (events_lent (take (i + 1) events)))
-    ≡ spelled (repeated 6 event_content (events_lent (take i events)))
-    ++ (bytes_head 6 (length (spelled (event_values event.now))) ++ spelled (event_values event.now))
+    ≡ spelled (repeated 6 event_content (events_lent (take i events))) ++ field_spelling 6 (event_content event.now)
 next_lent events i event within is =
     rw (lent_so_far events (i + 1), lent_so_far events i)
     (next_event (events_lent events) i event.now (lent_within events i within) (lent_at events i event within is))

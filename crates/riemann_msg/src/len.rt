@@ -14,56 +14,49 @@ use pb_wire::varint_len;
 
 /// How many bytes the spelling of a message has. `Memory`: they are 2^64 or more, which is more than a `usize` can
 /// count.
-#[tactic(auto, using(crate::proofs::Lengths::message_length))]
 pub fn msg_len(msg: &Msg) -> Result<usize, Memory>
     ensures ok { IfOk result (λ n. n ≡ length (spelling msg.now)) }
     ensures err { OnErr result (2 ^ 64 ≤ length (spelling msg.now)) }
 {
     let ok = flag_len(msg.ok);
-    let error = text_len(&msg.error)?;
-    let query = query_field_len(&msg.query)?;
-    let events = events_len(msg.events.as_slice())?;
-    let asked = sum(sum(ok, error)?, query)?;
-    sum(asked, events)
+    let asked = both(text_len(&msg.error), query_field_len(&msg.query));
+    let front = both(Ok(ok), asked);
+    both(front, events_len(msg.events.as_slice()))
 }
 
 /// How many bytes the events have, with their tags and lengths.
-#[tactic(auto, using(crate::proofs::Lengths::longer_events, crate::proofs::Lengths::fewer_events))]
 fn events_len(events: &[Event]) -> Result<usize, Memory>
     ensures { Counts result (length (spelled (repeated 6 event_content events.now))) }
 {
-    let mut len = 0;
+    let mut len = Ok(0);
     for event in events {
-        len = sum(len, embedded_len(event_len(event)?)?)?;
+        let field = embedded(event_len(event));
+        len = both(len, field);
     }
-    Ok(len)
+    len
 }
 
 /// How many bytes the fields of an event have.
-#[tactic(auto, using(crate::proofs::Lengths::event_length))]
 pub fn event_len(event: &Event) -> Result<usize, Memory>
     ensures { Counts result (length (spelled (event_values event.now))) }
 {
-    let names = names_len(event)?;
-    let tags = tags_len(event.tags.as_slice())?;
-    let attributes = attributes_len(event.attributes.as_slice())?;
+    let tags = tags_len(event.tags.as_slice());
+    let attributes = attributes_len(event.attributes.as_slice());
     let numbers = ttl_len(event.ttl) + numbers_len(event);
-    let lists = sum(tags, attributes)?;
-    sum(sum(names, lists)?, numbers)
+    let lists = both(tags, attributes);
+    let front = both(names_len(event), lists);
+    both(front, Ok(numbers))
 }
 
 /// How many bytes the time and the texts of an event have, with their tags and lengths.
-#[tactic(auto, using(crate::proofs::Lengths::names_length))]
 fn names_len(event: &Event) -> Result<usize, Memory>
     ensures { Counts result (length (spelled (name_values event.now))) }
 {
     let time = 1 + varint_len(event.time.cast_unsigned());
-    let state = text_len(&event.state)?;
-    let service = text_len(&event.service)?;
-    let host = text_len(&event.host)?;
-    let description = text_len(&event.description)?;
-    let names = sum(sum(state, service)?, host)?;
-    sum(time, sum(names, description)?)
+    let first = both(text_len(&event.state), text_len(&event.service));
+    let last = both(text_len(&event.host), text_len(&event.description));
+    let texts = both(first, last);
+    both(Ok(time), texts)
 }
 
 /// How many bytes the fields of a query have.
@@ -75,50 +68,45 @@ pub fn query_len(query: &QueryPart) -> Result<usize, Memory>
 }
 
 /// How many bytes the query has with its tag and its length, where there is one.
-#[tactic(auto, using(crate::proofs::Lengths::query_length))]
 fn query_field_len(query: &Option<QueryPart>) -> Result<usize, Memory>
     ensures { Counts result (length (spelled (optional 5 query_content query.now))) }
 {
     match query {
-        Some(query) => {
-            let fields = query_len(query)?;
-            embedded_len(fields)
-        }
+        Some(query) => embedded(query_len(query)),
         None => Ok(0),
     }
 }
 
 /// How many bytes the tags have, with their tags in the wire form and lengths.
-#[tactic(auto, using(crate::proofs::Lengths::longer_tags, crate::proofs::Lengths::fewer_tags))]
 fn tags_len(tags: &[Text]) -> Result<usize, Memory>
     ensures { Counts result (length (spelled (repeated 7 Bytes tags.now))) }
 {
-    let mut len = 0;
+    let mut len = Ok(0);
     for tag in tags {
-        len = sum(len, embedded_len(tag.as_bytes().len())?)?;
+        let field = embedded_len(tag.as_bytes().len());
+        len = both(len, field);
     }
-    Ok(len)
+    len
 }
 
 /// How many bytes the attributes have, with their tags and lengths.
-#[tactic(auto, using(crate::proofs::Lengths::longer_attributes, crate::proofs::Lengths::fewer_attributes))]
 fn attributes_len(attributes: &[Attr]) -> Result<usize, Memory>
     ensures { Counts result (length (spelled (repeated 9 attribute_content attributes.now))) }
 {
-    let mut len = 0;
+    let mut len = Ok(0);
     for attribute in attributes {
-        len = sum(len, embedded_len(attribute_len(attribute)?)?)?;
+        let field = embedded(attribute_len(attribute));
+        len = both(len, field);
     }
-    Ok(len)
+    len
 }
 
 /// How many bytes the fields of an attribute have.
-#[tactic(auto, using(crate::proofs::Lengths::attribute_length))]
 pub fn attribute_len(attribute: &Attr) -> Result<usize, Memory>
     ensures { Counts result (length (spelled (attribute_values attribute.now))) }
 {
-    let key = embedded_len(attribute.key.as_bytes().len())?;
-    sum(key, text_len(&attribute.value)?)
+    let key = embedded_len(attribute.key.as_bytes().len());
+    both(key, text_len(&attribute.value))
 }
 
 /// How many bytes the ttl has with its tag, where there is one.
@@ -204,14 +192,34 @@ fn text_len(text: &Option<Text>) -> Result<usize, Memory>
 }
 
 /// How many bytes `len` bytes have with a tag of one byte and their length.
-pub(crate) fn embedded_len(len: usize) -> Result<usize, Memory>
+fn embedded_len(len: usize) -> Result<usize, Memory>
     ensures { Counts result (1 + (length (varint len) + len)) }
 {
     sum(1 + varint_len(len as u64), len)
 }
 
-pub(crate) fn sum(a: usize, b: usize) -> Result<usize, Memory>
+fn sum(a: usize, b: usize) -> Result<usize, Memory>
     ensures { Counts result (a + b) }
 {
     a.checked_add(b).ok_or(Memory)
+}
+
+/// How many bytes a message has with a tag of one byte and its length, where its own bytes were counted.
+pub(crate) fn embedded(counted: Result<usize, Memory>) -> Result<usize, Memory>
+    ensures { (n : ℕ) → Counts counted n → Counts result (1 + (length (varint n) + n)) }
+{
+    let len = counted?;
+    embedded_len(len)
+}
+
+/// The sum of two lengths, where both were counted.
+pub(crate) fn both(
+    first: Result<usize, Memory>,
+    second: Result<usize, Memory>,
+) -> Result<usize, Memory>
+    ensures { (m : ℕ) (n : ℕ) → Counts first m → Counts second n → Counts result (m + n) }
+{
+    let a = first?;
+    let b = second?;
+    sum(a, b)
 }

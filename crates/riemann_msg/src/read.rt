@@ -9,9 +9,9 @@ ghost use Rattle.pb_wire.specs.Fields.{FieldAt, LiesWithin, fields_of};
 ghost use Rattle.pb_wire.specs.Spelling.{Varint, Eight, Bytes, Four};
 ghost use Rattle.riemann_msg.specs.Cleared.{AreCleared};
 ghost use Rattle.riemann_msg.specs.Value.{event_of, event_with, attribute_of, is_of_state, message_of, rounded, state_of};
-ghost use Rattle.riemann_msg.specs.Fault.{Fault, moved, first_by, IsRefusedFor, Decodes, attribute_field_fault, event_field_fault, state_field_fault, query_field_fault, message_field_fault, attribute_fault, event_fault, state_fault, first_fault};
+ghost use Rattle.riemann_msg.specs.Fault.{Fault, moved, first_by, IsRefusedFor, Decodes, attribute_field_fault, event_field_fault, state_field_fault, query_field_fault, message_field_fault, attribute_fault, event_fault, state_fault, query_fault, first_fault};
 ghost use Rattle.riemann_msg.specs.Spelling.{field, IsSpellable};
-ghost use Rattle.riemann_msg.specs.Draft.{Puts, field_at, value_at, attribute_with, query_with, state_with, message_with, message_in, fresh_message, utf8_fault, four_fault, bytes_fault, part_fault};
+ghost use Rattle.riemann_msg.specs.Draft.{Puts, field_at, value_at, attribute_with, query_joined, query_with, state_with, message_with, message_in, fresh_message, utf8_fault, four_fault, bytes_fault, part_fault};
 
 use crate::fault::{MsgFault, MsgWhy};
 use crate::fields::{
@@ -155,11 +155,10 @@ impl Draft for AttrDraft {
         };
         let text = &bytes[start..end];
         match number {
-            KEY => put_text(alloc, &mut self.key, text, base + place)?,
-            VALUE => put_text(alloc, &mut self.value, text, base + place)?,
-            _ => {}
+            KEY => put_text(alloc, &mut self.key, text, base + place),
+            VALUE => put_text(alloc, &mut self.value, text, base + place),
+            _ => Ok(()),
         }
-        Ok(())
     }
 }
 
@@ -217,12 +216,29 @@ impl Draft for QueryPart {
     ) -> Result<(), MsgFault> {
         match (number, body) {
             (STRING, Body::Bytes { start, end }) => {
-                put_text(alloc, &mut self.string, &bytes[start..end], base + place)?;
+                put_text(alloc, &mut self.string, &bytes[start..end], base + place)
             }
-            _ => {}
+            _ => Ok(()),
         }
-        Ok(())
     }
+}
+
+/// Reads the bytes, which begin at `base` in the whole message, as more fields of the query.
+#[tactic(auto, unfolding(crate::specs::Fault::query_fault))]
+fn put_query(
+    alloc: Global,
+    field: &mut Option<QueryPart>,
+    bytes: &[u8],
+    base: usize,
+) -> Result<(), MsgFault>
+    requires { base + length bytes.now < 2 ^ 64 }
+    ensures { Puts (option_map (moved base) (query_fault bytes.now))
+        (query_joined field.old bytes.now) result field.new }
+{
+    let mut query = field.take().unwrap_or(QueryPart { string: None });
+    read_fields(alloc, bytes, base, &mut query)?;
+    *field = Some(query);
+    Ok(())
 }
 
 /// Reads a field of the type varint.
@@ -283,15 +299,14 @@ fn put_bytes(
         (event_with event.old (field number (Bytes bytes.now) ∷ [])) result event.new }
 {
     match number {
-        STATE => put_text(alloc, &mut event.state, bytes, place)?,
-        SERVICE => put_text(alloc, &mut event.service, bytes, place)?,
-        HOST => put_text(alloc, &mut event.host, bytes, place)?,
-        DESCRIPTION => put_text(alloc, &mut event.description, bytes, place)?,
-        TAGS => push_tag(alloc, &mut event.tags, bytes, place)?,
-        ATTRIBUTES => push_attribute(alloc, &mut event.attributes, bytes, base)?,
-        _ => {}
+        STATE => put_text(alloc, &mut event.state, bytes, place),
+        SERVICE => put_text(alloc, &mut event.service, bytes, place),
+        HOST => put_text(alloc, &mut event.host, bytes, place),
+        DESCRIPTION => put_text(alloc, &mut event.description, bytes, place),
+        TAGS => push_tag(alloc, &mut event.tags, bytes, place),
+        ATTRIBUTES => push_attribute(alloc, &mut event.attributes, bytes, base),
+        _ => Ok(()),
     }
-    Ok(())
 }
 
 impl Draft for Event {
@@ -310,15 +325,20 @@ impl Draft for Event {
         place: usize,
     ) -> Result<(), MsgFault> {
         match body {
-            Body::Varint(value) => put_varint(self, number, value),
-            Body::Eight(bits) => put_eight(self, number, bits),
-            Body::Four(bits) => put_four(self, number, bits, base + place)?,
+            Body::Varint(value) => {
+                put_varint(self, number, value);
+                Ok(())
+            }
+            Body::Eight(bits) => {
+                put_eight(self, number, bits);
+                Ok(())
+            }
+            Body::Four(bits) => put_four(self, number, bits, base + place),
             Body::Bytes { start, end } => {
                 let part = &bytes[start..end];
-                put_bytes(self, alloc, number, part, base + start, base + place)?;
+                put_bytes(self, alloc, number, part, base + start, base + place)
             }
         }
-        Ok(())
     }
 }
 
@@ -390,23 +410,10 @@ impl Draft for StateDraft {
     }
 }
 
-/// Reads the bytes, which begin at `base` in the whole message, as a state. One without a time gets `now`.
+/// Reads the bytes, which begin at `base` in the whole message, as a state, and adds it to the states. One without a
+/// time gets `now`. It is never inlined, since its local event is large and would be cleared at each entry of the
+/// caller.
 #[tactic(auto, unfolding(crate::specs::Fault::state_fault))]
-fn read_state(alloc: Global, now: i64, bytes: &[u8], base: usize) -> Result<Event, MsgFault>
-    requires { base + length bytes.now < 2 ^ 64 }
-    ensures { Decodes (option_map (moved base) (state_fault bytes.now))
-        (state_of now bytes.now) result }
-{
-    let mut draft = StateDraft {
-        event: Event::at(alloc, now),
-    };
-    read_fields(alloc, bytes, base, &mut draft)?;
-    let StateDraft { event } = draft;
-    Ok(event)
-}
-
-/// Reads the bytes, which begin at `base` in the whole message, as a state, and adds it to the states. It is never
-/// inlined, since its local event is large and would be cleared at each entry of the caller.
 #[cold]
 #[inline(never)]
 fn push_state(
@@ -420,7 +427,11 @@ fn push_state(
     ensures { Puts (option_map (moved base) (state_fault bytes.now))
         (states.old ++ state_of now bytes.now ∷ []) result states.new }
 {
-    states.push(alloc, read_state(alloc, now, bytes, base)?)?;
+    let mut draft = StateDraft {
+        event: Event::at(alloc, now),
+    };
+    read_fields(alloc, bytes, base, &mut draft)?;
+    states.push(alloc, draft.event)?;
     Ok(())
 }
 
@@ -573,7 +584,6 @@ impl MsgDraft {
     }
 
     /// Reads a field of bytes, which begin at `base` in the whole message. Its tag is at `place`.
-    #[tactic(auto, unfolding(crate::specs::Fault::query_fault))]
     fn put_bytes(
         &mut self,
         alloc: Global,
@@ -587,17 +597,12 @@ impl MsgDraft {
             (message_with self.old (field number (Bytes bytes.now) ∷ [])) result self.new }
     {
         match number {
-            ERROR => put_text(alloc, &mut self.error, bytes, place)?,
-            QUERY => {
-                let mut query = self.query.take().unwrap_or(QueryPart { string: None });
-                read_fields(alloc, bytes, base, &mut query)?;
-                self.query = Some(query);
-            }
-            EVENTS => self.events.add(alloc, self.now, bytes, base)?,
-            STATES => push_state(alloc, self.now, &mut self.states, bytes, base)?,
-            _ => {}
+            ERROR => put_text(alloc, &mut self.error, bytes, place),
+            QUERY => put_query(alloc, &mut self.query, bytes, base),
+            EVENTS => self.events.add(alloc, self.now, bytes, base),
+            STATES => push_state(alloc, self.now, &mut self.states, bytes, base),
+            _ => Ok(()),
         }
-        Ok(())
     }
 
     /// The message that was read.
@@ -612,11 +617,12 @@ impl MsgDraft {
             states,
             events,
         } = self;
+        let events = states_first(states, events.into_events())?;
         Ok(Msg {
             ok,
             error,
             query,
-            events: states_first(states, events.into_events())?,
+            events,
         })
     }
 }
@@ -640,14 +646,14 @@ impl Draft for MsgDraft {
                 if number == OK {
                     self.ok = Some(value != 0);
                 }
+                Ok(())
             }
             Body::Bytes { start, end } => {
                 let part = &bytes[start..end];
-                self.put_bytes(alloc, number, part, base + start, base + place)?;
+                self.put_bytes(alloc, number, part, base + start, base + place)
             }
-            _ => {}
+            _ => Ok(()),
         }
-        Ok(())
     }
 }
 

@@ -5,35 +5,32 @@ ghost use Rattle.list_laws.specs.Prefix.{IsPrefix};
 ghost use Rattle.riemann_msg.specs.Reply.{events_lent, found};
 ghost use Rattle.riemann_msg.specs.Spelling.{Counts, spelling, spelled, repeated, event_content};
 
-use crate::fields::EVENTS;
-use crate::len::{embedded_len, event_len, flag_len, sum};
-use crate::write::{put_event, put_flag};
+use crate::len::{both, embedded, event_len, flag_len};
+use crate::write::{put_event_field, put_flag};
 use ev_types::{Blob, Event, Memory};
-use pb_wire::put_tag_and_length;
 use std::alloc::Global;
 
 /// How many bytes the spelling of a reply with these events has. `Memory`: they are 2^64 or more, which is more than a
 /// `usize` can count.
-#[tactic(auto, using(crate::proofs::Lengths::found_length))]
 pub fn found_len(events: &[&Event]) -> Result<usize, Memory>
     ensures ok { IfOk result (λ n. n ≡ length (spelling (found (events_lent events.now)))) }
     ensures err { OnErr result (2 ^ 64 ≤ length (spelling (found (events_lent events.now)))) }
 {
     let ok = flag_len(Some(true));
-    sum(ok, lent_events_len(events)?)
+    both(Ok(ok), lent_events_len(events))
 }
 
 /// How many bytes the events have, with their tags and lengths.
-#[tactic(auto, using(crate::proofs::Lengths::longer_lent, crate::proofs::Lengths::fewer_lent))]
 fn lent_events_len(events: &[&Event]) -> Result<usize, Memory>
     ensures { Counts result
         (length (spelled (repeated 6 event_content (events_lent events.now)))) }
 {
-    let mut len = 0;
+    let mut len = Ok(0);
     for event in events {
-        len = sum(len, embedded_len(event_len(event)?)?)?;
+        let field = embedded(event_len(event));
+        len = both(len, field);
     }
-    Ok(len)
+    len
 }
 
 /// Appends the spelling of a reply with these events. If memory runs out, `out` still begins with what it had.
@@ -53,8 +50,7 @@ fn put_lent_events(alloc: Global, events: &[&Event], out: &mut Blob) -> Result<(
     ensures err { OnErr result (IsPrefix out.old out.new) }
 {
     for event in events {
-        put_tag_and_length(alloc, out, EVENTS, event_len(event)?)?;
-        put_event(alloc, event, out)?;
+        put_event_field(alloc, event, out)?;
     }
     Ok(())
 }

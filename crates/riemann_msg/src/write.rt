@@ -1,9 +1,9 @@
-ghost use Rattle.std.specs.Prelude.{◌≡◌, ◌++◌, ◌<◌, ◌^◌, OnOk, OnErr};
+ghost use Rattle.std.specs.Prelude.{◌≡◌, ℕ, ◌++◌, ◌<◌, ◌^◌, OnOk, OnErr};
 ghost use Rattle.std.specs.Int.{from_bool};
 ghost use Rattle.list_laws.specs.Prefix.{IsPrefix};
-ghost use Rattle.pb_wire.specs.Spelling.{Bytes, Eight, Four, Varint};
+ghost use Rattle.pb_wire.specs.Spelling.{Bytes, Eight, Four, Varint, bytes_head, field_spelling};
 ghost use Rattle.riemann_msg.specs.Ttl.{bits_of};
-ghost use Rattle.riemann_msg.specs.Spelling.{spelling, spelled, optional, repeated, int64, sint64, attribute_values, attribute_content, name_values, number_values, event_values, event_content, query_content};
+ghost use Rattle.riemann_msg.specs.Spelling.{Counts, spelling, spelled, optional, repeated, int64, sint64, attribute_values, attribute_content, name_values, number_values, event_values, event_content, query_content};
 
 use crate::fields::{
     ATTRIBUTES, DESCRIPTION, ERROR, EVENTS, HOST, KEY, METRIC_D, METRIC_F, METRIC_SINT64, OK,
@@ -48,10 +48,10 @@ fn put_text(alloc: Global, number: u32, text: &Option<Text>, out: &mut Blob) -> 
     ensures ok { OnOk result (out.new ≡ out.old ++ spelled (optional number Bytes text.now)) }
     ensures err { OnErr result (IsPrefix out.old out.new) }
 {
-    if let Some(text) = text {
-        put_field(alloc, out, number, PutBody::Bytes(text.as_bytes()))?;
+    match text {
+        Some(text) => put_field(alloc, out, number, PutBody::Bytes(text.as_bytes())),
+        None => Ok(()),
     }
-    Ok(())
 }
 
 /// Appends the query, where there is one.
@@ -61,7 +61,7 @@ fn put_query(alloc: Global, query: &Option<QueryPart>, out: &mut Blob) -> Result
     ensures err { OnErr result (IsPrefix out.old out.new) }
 {
     if let Some(query) = query {
-        put_tag_and_length(alloc, out, QUERY, query_len(query)?)?;
+        put_head(alloc, out, QUERY, query_len(query))?;
         put_text(alloc, STRING, &query.string, out)?;
     }
     Ok(())
@@ -74,14 +74,41 @@ fn put_events(alloc: Global, events: &[Event], out: &mut Blob) -> Result<(), Mem
     ensures err { OnErr result (IsPrefix out.old out.new) }
 {
     for event in events {
-        put_tag_and_length(alloc, out, EVENTS, event_len(event)?)?;
-        put_event(alloc, event, out)?;
+        put_event_field(alloc, event, out)?;
     }
     Ok(())
 }
 
+/// Appends an event as a field of a message.
+pub(crate) fn put_event_field(alloc: Global, event: &Event, out: &mut Blob) -> Result<(), Memory>
+    ensures ok { OnOk result (out.new ≡ out.old ++ field_spelling 6 (event_content event.now)) }
+    ensures err { OnErr result (IsPrefix out.old out.new) }
+{
+    put_head(alloc, out, EVENTS, event_len(event))?;
+    put_event(alloc, event, out)?;
+    Ok(())
+}
+
+/// Appends the tag and the length of a message, whose own bytes were counted. The caller appends those.
+fn put_head(
+    alloc: Global,
+    out: &mut Blob,
+    number: u32,
+    counted: Result<usize, Memory>,
+) -> Result<(), Memory>
+    requires positive { 0 < number }
+    requires small { number < 2 ^ 29 }
+    ensures ok { OnOk result ((n : ℕ) → Counts counted n
+        → out.new ≡ out.old ++ bytes_head number n) }
+    ensures err { OnErr result (IsPrefix out.old out.new) }
+{
+    let len = counted?;
+    put_tag_and_length(alloc, out, number, len)?;
+    Ok(())
+}
+
 /// Appends the fields of an event.
-pub(crate) fn put_event(alloc: Global, event: &Event, out: &mut Blob) -> Result<(), Memory>
+fn put_event(alloc: Global, event: &Event, out: &mut Blob) -> Result<(), Memory>
     ensures ok { OnOk result (out.new ≡ out.old ++ spelled (event_values event.now)) }
     ensures err { OnErr result (IsPrefix out.old out.new) }
 {
@@ -113,7 +140,6 @@ fn put_names(alloc: Global, event: &Event, out: &mut Blob) -> Result<(), Memory>
 }
 
 /// Appends the tags.
-#[tactic(auto, using(crate::proofs::Spelled::next_tag))]
 fn put_tags(alloc: Global, tags: &[Text], out: &mut Blob) -> Result<(), Memory>
     ensures ok { OnOk result (out.new ≡ out.old ++ spelled (repeated 7 Bytes tags.now)) }
     ensures err { OnErr result (IsPrefix out.old out.new) }
@@ -130,10 +156,10 @@ fn put_ttl(alloc: Global, ttl: Option<u32>, out: &mut Blob) -> Result<(), Memory
         ≡ out.old ++ spelled (optional 8 (λ ttl. Four (bits_of ttl)) ttl)) }
     ensures err { OnErr result (IsPrefix out.old out.new) }
 {
-    if let Some(ttl) = ttl {
-        put_field(alloc, out, TTL, PutBody::Four(bits_of_ttl(ttl)))?;
+    match ttl {
+        Some(ttl) => put_field(alloc, out, TTL, PutBody::Four(bits_of_ttl(ttl))),
+        None => Ok(()),
     }
-    Ok(())
 }
 
 /// Appends the attributes.
@@ -143,24 +169,24 @@ fn put_attributes(alloc: Global, attributes: &[Attr], out: &mut Blob) -> Result<
     ensures err { OnErr result (IsPrefix out.old out.new) }
 {
     for attribute in attributes {
-        put_tag_and_length(alloc, out, ATTRIBUTES, attribute_len(attribute)?)?;
         put_attribute(alloc, attribute, out)?;
     }
     Ok(())
 }
 
-/// Appends the fields of an attribute.
+/// Appends an attribute as a field of an event.
 fn put_attribute(alloc: Global, attribute: &Attr, out: &mut Blob) -> Result<(), Memory>
-    ensures ok { OnOk result (out.new ≡ out.old ++ spelled (attribute_values attribute.now)) }
+    ensures ok { OnOk result (out.new
+        ≡ out.old ++ field_spelling 9 (attribute_content attribute.now)) }
     ensures err { OnErr result (IsPrefix out.old out.new) }
 {
+    put_head(alloc, out, ATTRIBUTES, attribute_len(attribute))?;
     put_field(alloc, out, KEY, PutBody::Bytes(attribute.key.as_bytes()))?;
     put_text(alloc, VALUE, &attribute.value, out)?;
     Ok(())
 }
 
 /// Appends the time in microseconds and the metrics of an event.
-#[tactic(auto, using(crate::proofs::Spelled::numbers_spelled))]
 fn put_numbers(alloc: Global, event: &Event, out: &mut Blob) -> Result<(), Memory>
     ensures ok { OnOk result (out.new ≡ out.old ++ spelled (number_values event.now)) }
     ensures err { OnErr result (IsPrefix out.old out.new) }
@@ -204,10 +230,10 @@ fn put_double(alloc: Global, bits: Option<u64>, out: &mut Blob) -> Result<(), Me
     ensures ok { OnOk result (out.new ≡ out.old ++ spelled (optional 14 Eight bits)) }
     ensures err { OnErr result (IsPrefix out.old out.new) }
 {
-    if let Some(bits) = bits {
-        put_field(alloc, out, METRIC_D, PutBody::Eight(bits))?;
+    match bits {
+        Some(bits) => put_field(alloc, out, METRIC_D, PutBody::Eight(bits)),
+        None => Ok(()),
     }
-    Ok(())
 }
 
 /// Appends the bits of a metric that came as a float, where there are some.
@@ -215,8 +241,8 @@ fn put_float(alloc: Global, bits: Option<u32>, out: &mut Blob) -> Result<(), Mem
     ensures ok { OnOk result (out.new ≡ out.old ++ spelled (optional 15 Four bits)) }
     ensures err { OnErr result (IsPrefix out.old out.new) }
 {
-    if let Some(bits) = bits {
-        put_field(alloc, out, METRIC_F, PutBody::Four(bits))?;
+    match bits {
+        Some(bits) => put_field(alloc, out, METRIC_F, PutBody::Four(bits)),
+        None => Ok(()),
     }
-    Ok(())
 }

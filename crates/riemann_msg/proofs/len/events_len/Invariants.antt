@@ -1,6 +1,6 @@
-use Rattle.std.proofs.Common.{◌≡◌, length, take}
-use Rattle.riemann_msg.specs.Spelling.{repeated, spelled, event_content}
+use Rattle.std.proofs.Common.{length, take}
+use Rattle.riemann_msg.specs.Spelling.{Counts, repeated, spelled, event_content}
 use Rattle.riemann_msg.proofs.len.events_len.Given as goal
 
 abbrev pub invariant-loop-event : goal.invariant-loop-event
-invariant-loop-event l = l.len ≡ length (spelled (repeated 6 event_content (take l.event-index l.events)))
+invariant-loop-event l = Counts l.len (length (spelled (repeated 6 event_content (take l.event-index l.events))))
