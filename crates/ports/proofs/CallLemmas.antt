@@ -1,5 +1,6 @@
 -- What calls of links add, put together.
-use Rattle.std.proofs.Common.{◌≡◌, ◌≤◌, ℕ, List, [], ◌++◌, refl, ap, sym, ◌∙◌, append-nil, append_assoc, arith}
+use Rattle.std.proofs.Common.{◌≡◌, ◌≤◌, ℕ, List, [], ◌++◌, refl, ap, sym, ◌∙◌, append-nil, append_assoc}
+use Rattle.std.proofs.Math.Nat.{le_refl, le_trans}
 use Rattle.std.specs.Prelude.{Option, Some, None}
 use Rattle.ports.specs.Calls.{AddsCalls, LinksReport}
 use Rattle.ports.specs.Links.{grown}
@@ -17,7 +18,8 @@ grown_twice None first second = refl
 grown_twice (Some log) first second = ap Some (append_assoc log first second)
 
 pub no_calls : (report : LinksReport) → AddsCalls report report []
-no_calls report = record { log = grown_nothing report.log; script = refl; plays = λ plays. plays; faults = omega arith }
+no_calls report =
+    record { log = grown_nothing report.log; script = refl; plays = λ plays. plays; faults = le_refl report.faults }
 
 pub calls_then : (a b c : LinksReport) (first second : List Entry) → AddsCalls a b first → AddsCalls b c second
     → AddsCalls a c (first ++ second)
@@ -25,7 +27,7 @@ calls_then a b c first second one two = record {
   log = two.log ∙ ap (λ (log : Option (List Entry)). grown log second) one.log ∙ grown_twice a.log first second;
   script = two.script ∙ one.script;
   plays = λ plays. two.plays (one.plays plays);
-  faults = omega (arith, one.faults, two.faults);
+  faults = le_trans one.faults two.faults;
 }
 
 -- the calls of links that report nothing but their faults
@@ -40,7 +42,7 @@ pub played_calls : (links links' : ScriptedCalls) (made : List Entry) → Some l
     → links'.script ≡ links.script → Plays (Some links'.script) (Some links'.log)
     → AddsCalls (script_report links) (script_report links') made
 played_calls links links' made log script plays =
-    record { log = log; script = ap Some script; plays = λ _. plays; faults = omega arith }
+    record { log = log; script = ap Some script; plays = λ _. plays; faults = le_refl 0 }
 
 -- the same calls, with another count of faults beside them
 pub calls_counted : (links links' : ScriptedCalls) (faults faults' : ℕ) (made : List Entry)

@@ -66,7 +66,6 @@ impl Links for FaultLinks {
 
     ghost report = { λ links. fault_report links };
 
-    #[tactic(auto, using(crate::proofs::ScriptLemmas::listen_counts, crate::proofs::CallLemmas::calls_counted, crate::proofs::CallLemmas::played_calls))]
     fn listen(&mut self, alloc: Global, address: &Text) -> ListenAnswer
         ensures adds { AddsCalls (fault_report self.old) (fault_report self.new)
             (listen_entries address.now result) }

@@ -92,7 +92,7 @@ pub(crate) fn set_rule(
 }
 
 /// Makes the lines up to the first turn take effect, and gives their number.
-#[tactic(auto, using(crate::proofs::RuleLemmas::turn_at, crate::proofs::RuleLemmas::turn_keeps_at, crate::proofs::RuleLemmas::rule_at, crate::proofs::RuleLemmas::rule_acts_at))]
+#[tactic(auto, using(crate::proofs::RuleLemmas::turn_at, crate::proofs::RuleLemmas::turn_keeps_at))]
 pub(crate) fn apply_rules(
     steps: &[Step],
     rules: &mut HashMap<u64, SendRule>,
@@ -119,23 +119,22 @@ fn apply_rule(step: &Step, rules: &mut HashMap<u64, SendRule>) -> Result<(), Mem
         ≡ rules_at_turn (step.now ∷ []) (rules_in rules.old)) }
 {
     match step {
-        Step::Turn { .. } => {}
+        Step::Turn { .. } => Ok(()),
         Step::Take { link, count } => {
             let rule = SendRule {
                 left: Some(*count),
                 fails: rule_of(rules, *link).fails,
             };
-            set_rule(rules, *link, rule)?;
+            set_rule(rules, *link, rule)
         }
         Step::Fail { link } => {
             let rule = SendRule {
                 left: rule_of(rules, *link).left,
                 fails: true,
             };
-            set_rule(rules, *link, rule)?;
+            set_rule(rules, *link, rule)
         }
     }
-    Ok(())
 }
 
 /// Adds bytes to those that were taken from the link.

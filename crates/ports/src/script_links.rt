@@ -179,7 +179,7 @@ impl ScriptLinks {
 
 impl ScriptState {
     /// Plays the lines up to the next turn, and that turn. The bytes of a read are written to the start of `buf`.
-    #[tactic(auto, using(crate::proofs::RuleLemmas::from_turn_twice, crate::proofs::RuleLemmas::first_turn_later, crate::proofs::RuleLemmas::after_turn))]
+    #[tactic(auto, using(crate::proofs::RuleLemmas::from_turn_twice))]
     fn advance(&mut self, buf: &mut [u8]) -> Result<Turn, Memory>
         requires { length buf.old ≡ PIECE_LIMIT }
         ensures script { self.new.script ≡ self.old.script }

@@ -1,7 +1,7 @@
-use Rattle.std.proofs.Common.{sym, take}
+use Rattle.std.proofs.Common.{◌≤◌, length, refl, sym, take}
 use Rattle.std.proofs.lemmas.List.{length-take-le}
 use Rattle.ports.specs.Tables.{rules_in, taken_in}
-use Rattle.ports.proofs.ScriptLemmas.{playing_sent, plays_some}
+use Rattle.ports.proofs.ScriptLemmas.{playing_poisoned, playing_sent, plays_some}
 use Rattle.ports.proofs.script_links.ScriptLinks.play_send.Goals as goal
 
 pub slice_bounds-add_taken-end : goal.slice_bounds-add_taken-end
@@ -18,3 +18,12 @@ invariant_of-self-2 c =
 
 pub returns-clause-plays : goal.returns-clause-plays
 returns-clause-plays c = plays_some _ _ (invariant_of-self-2 c).run
+
+pub invariant_of-self : goal.invariant_of-self
+invariant_of-self c =
+    let within : c.send.new.self.next ≤ length c.self.inside.state.script.steps =
+    rw (← c.in_err-answer.ensures.script) c.send.new.self.within in
+    rw c.in_err-answer.ensures.script (
+    playing_poisoned _ _ _ _ _ _ _ _ c.self.invariant c.send.new.self.next c.send.new.self.secs
+    (rules_in c.send.new.self.rules) (taken_in c.self.inside.taken) within (λ link. refl)
+    )
