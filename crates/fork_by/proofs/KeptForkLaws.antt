@@ -13,15 +13,15 @@ use Rattle.ev_types.specs.declared.value.Value.{Value}
 use Rattle.ev_types.specs.Key.{same_key}
 use Rattle.ev_types.proofs.Values.{same_key_decides}
 use Rattle.linked_slots.proofs.ListLaws.{bool_cases, eqb-same, eqb-true, eqb-apart}
-use Rattle.fork_by.specs.Labels.{Adds, Label, IsLatest, IsLive, Touches, due_moments, due_numbers, dues_cleared}
-use Rattle.fork_by.specs.Labels.{dues_set, index_at, is_due_by, label_at, last_moment_at, number_of, with_due}
-use Rattle.fork_by.specs.Labels.{with_moment, without_due}
+use Rattle.fork_by.specs.Labels.{Adds, AreSound, Label, IsLatest, IsLive, Touches, due_moments, due_numbers}
+use Rattle.fork_by.specs.Labels.{dues_cleared, dues_set, index_at, is_due_by, label_at, last_moment_at, number_of}
+use Rattle.fork_by.specs.Labels.{with_due, with_moment, without_due}
 use Rattle.fork_by.specs.Laws.{FoundFork}
 use Rattle.fork_by.specs.declared.table.ForkTable.{ForkTable}
 use Rattle.fork_by.specs.Table.{AreApart, HasFork, IsTable, KeptFork, due_kept, fork_labels, fork_replaced, fork_with}
 use Rattle.fork_by.specs.Table.{kept_at, kept_dues, kept_forks, kept_number, labelled, place_of, with_fork}
 use Rattle.fork_by.proofs.TableLaws.{found_label, is_within, label_from, number_found}
-use Rattle.fork_by.proofs.ListLaws.{all-filter, all-more}
+use Rattle.fork_by.proofs.ListLaws.{all-filter, all-more, map-length}
 
 -- ---- the fork of a number, in a list
 module _ {F : Type 0} where
@@ -380,6 +380,37 @@ module _ {F : Type 0} where
           omega (arith, place, len, less);
     }
 
+    -- the labels are as many as before, and sound
+    mapped-table : (g : Label → Label) → fork_labels table' ≡ map g (fork_labels table) → AreSound (fork_labels table')
+        → IsTable table → IsTable table'
+    mapped-table g is sound is_table = record {
+      even =
+          ap (λ (forks : List F). length forks) same ∙ is_table.even ∙ sym (map-length g (fork_labels table))
+          ∙ sym (ap (λ (ls : List Label). length ls) is);
+      sound = sound;
+    }
+
+    pub touched-table : (number now : ℕ) → Touches (fork_labels table) (fork_labels table') number now
+        → AreSound (fork_labels table') → IsTable table → IsTable table'
+    touched-table number now touches = mapped-table (with_moment number touches.moment) touches.is
+
+    pub dated-table : (number : ℕ) (due : Option ℕ) → fork_labels table' ≡ dues_set number due (fork_labels table)
+        → AreSound (fork_labels table') → IsTable table → IsTable table'
+    dated-table number due = mapped-table (with_due number due)
+
+    pub cleared-table : (now : ℕ) → fork_labels table' ≡ dues_cleared now (fork_labels table)
+        → AreSound (fork_labels table') → IsTable table → IsTable table'
+    cleared-table now = mapped-table (without_due now)
+
+    pub same-table : fork_labels table' ≡ fork_labels table → AreSound (fork_labels table')
+        → IsTable table → IsTable table'
+    same-table is sound is_table = record {
+      even =
+          ap (λ (forks : List F). length forks) same ∙ is_table.even
+          ∙ sym (ap (λ (ls : List Label). length ls) is);
+      sound = sound;
+    }
+
     pub touched-has : (number now : ℕ) → Touches (fork_labels table) (fork_labels table') number now → (other : ℕ)
         → HasFork other table → HasFork other table'
     touched-has number now touches other has =
@@ -428,6 +459,16 @@ module _ {F : Type 0} where
               let less : place_of other table < length table.forks.items = has.within in
               omega (arith, place, one_more, less);
         }
+
+    pub added-table : AreSound (fork_labels table') → IsTable table → IsTable table'
+    added-table sound is_table = record {
+      even =
+          one_more ∙ ap (λ n. n + 1) is_table.even
+          ∙ sym (ap (λ (ls : List Label). length ls) adds.added
+          ∙ length-append (fork_labels table)
+          (label_from key number (length (fork_labels table)) adds.moment ∷ []));
+      sound = sound;
+    }
 
     pub added-has : IsTable table → HasFork number table'
     added-has is_table =

@@ -1,6 +1,6 @@
 -- Laws of slots by number.
 use Rattle.std.proofs.Common.{◌≡◌, ℕ, suc, zero, ◌<◌, ◌≤◌, true, false, cond, eqb, List, [], ◌∷◌, ◌++◌, length}
-use Rattle.std.proofs.Common.{slice_set, Option, None, Some, arith, refl, sym, ◌∙◌, ap, inl, inr}
+use Rattle.std.proofs.Common.{slice_set, Option, None, Some, arith, refl, sym, subst, ◌∙◌, ap, inl, inr}
 use Rattle.std.proofs.lemmas.Bool.Decides.{nat_tests}
 use Rattle.std.proofs.lemmas.List.{get_or-set_other}
 use Rattle.std.proofs.lemmas.Grind.{get_or-set_at}
@@ -48,6 +48,19 @@ slot_unset number slots h other =
       | inl same ↦ rw same (ap (λ n. slot_at n slots) (eqb-true other number same) ∙ h)
       | inr apart ↦ rw apart refl
     ]
+
+-- the slot of a number is changed, if it has one
+pub unset-changed : (slots : List (Option Slot)) (number : ℕ) (change : Option Slot → Option Slot)
+    → slot_at number slots ≡ None → change None ≡ None → SetsSlot slots slots number (change (slot_at number slots))
+unset-changed slots number change none same =
+    subst (λ (o : Option Slot). SetsSlot slots slots number o) (sym (ap change none ∙ same))
+    (slot_unset number slots none)
+
+pub set-changed : (slots slots' : List (Option Slot)) (number : ℕ) (slot : Slot) (change : Option Slot → Option Slot)
+    → slot_at number slots ≡ Some slot → SetsSlot slots slots' number (change (Some slot))
+    → SetsSlot slots slots' number (change (slot_at number slots))
+set-changed slots slots' number slot change at sets =
+    subst (λ (o : Option Slot). SetsSlot slots slots' number (change o)) (sym at) sets
 
 -- the slot of the number that is at an index, if there is one, has the index
 pub moved_some : (slots slots' : List (Option Slot)) (index number : ℕ) (o : Option ℕ) → o ≡ Some number

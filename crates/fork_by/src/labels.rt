@@ -109,9 +109,8 @@ impl Labels {
         if let Some(register) = &mut self.register {
             return add_noted(alloc, register, key, now);
         }
-        let mut register = Register::fresh(alloc)?;
-        let number = add_noted(alloc, &mut register, key, now)?;
-        self.register = Some(Box::new(alloc, register)?);
+        let (register, number) = first_added(alloc, key, now)?;
+        self.register = Some(register);
         Ok(number)
     }
 
@@ -204,6 +203,16 @@ impl Labels {
             None => None,
         }
     }
+}
+
+/// The label of one fork, which is the first one, and its number.
+fn first_added(alloc: Global, key: Key, now: u64) -> Result<(Box<Register>, usize), Memory>
+    ensures added { IfOk result (λ made. Adds [] made.0.value key made.1 now) }
+    ensures sound { IfOk result (λ made. AreSound made.0.value) }
+{
+    let mut register = Box::new(alloc, Register::fresh(alloc)?)?;
+    let number = add_noted(alloc, &mut register, key, now)?;
+    Ok((register, number))
 }
 
 /// Adds the label of a fork, notes its key, and gives its number.

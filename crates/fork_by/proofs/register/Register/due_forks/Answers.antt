@@ -1,8 +1,9 @@
-use Rattle.std.proofs.Common.{List, ℕ, ◌≡◌, ◌++◌, [], length, filter, not, append-nil, arith, sym, ◌∙◌, ap, subst}
+use Rattle.std.proofs.Common.{List, ℕ, ◌≡◌, ◌++◌, [], length, filter, not, append-nil, arith, refl, sym, ◌∙◌, ap, subst}
 use Rattle.std.specs.BTreeMap.{is_at}
 use Rattle.std.specs.List.{list_any}
 use Rattle.std.specs.Map.{values_of}
 use Rattle.std.specs.Ordering.{nat_cmp}
+use Rattle.tick_schedule.proofs.ListLaws.{on_err}
 use Rattle.tick_schedule.proofs.QueueLaws.{later-left}
 use Rattle.fork_by.specs.Labels.{AreSound, due_numbers, dues_cleared}
 use Rattle.fork_by.specs.Order.{put_all}
@@ -73,6 +74,13 @@ returns-in_err-push_all-clause-quiet g c =
     λ none. absurd (some-due c.self.inside.numbers.entries c.self.inside.slots.items c.self.inside.moments.lists
     c.self.inside.due c.self.inside.next (numbers_after c.self.inside.changes.items) c.self.invariant c.args.now
     (c.is_due.ensures.some c.if-not-is_due.false) (ap (due_numbers c.args.now) c.self.view_is ∙ none))
+
+pub returns-in_err-push_all-clause-err : goal.returns-in_err-push_all-clause-err
+returns-in_err-push_all-clause-err g c = on_err c.from_residual-in_err-push_all.result refl
+
+pub returns-in_err-push_all-clause-prefix : goal.returns-in_err-push_all-clause-prefix
+returns-in_err-push_all-clause-prefix g c =
+    on_err c.from_residual-in_err-push_all.result c.in_err-push_all.ensures.prefix
 
 pub returns-in_err-push_all-clause-sound : goal.returns-in_err-push_all-clause-sound
 returns-in_err-push_all-clause-sound g c =

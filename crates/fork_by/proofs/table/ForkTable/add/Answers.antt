@@ -1,6 +1,6 @@
 use Rattle.std.proofs.Common.{◌++◌, ◌∷◌, [], ◌∙◌, ap}
 use Rattle.fork_by.proofs.TableLaws.{kept-grown}
-use Rattle.fork_by.proofs.KeptForkLaws.{added-has, added-others}
+use Rattle.fork_by.proofs.KeptForkLaws.{added-has, added-others, added-table}
 use Rattle.fork_by.proofs.table.ForkTable.add.Goals as goal
 
 pub returns-clause-ok : goal.returns-clause-ok
@@ -22,3 +22,9 @@ returns-clause-others g c =
     added-others c.args.self.now _ c.args.fork
     (c.push_reserved.ensures.items ∙ ap (λ items. items ++ c.args.fork ∷ []) c.reserve.ensures.items) c.args.key
     c.in_ok-number.number c.args.now c.in_ok-number.ensures.ok
+
+pub returns-clause-table : goal.returns-clause-table
+returns-clause-table g c =
+    added-table c.args.self.now _ c.args.fork
+    (c.push_reserved.ensures.items ∙ ap (λ items. items ++ c.args.fork ∷ []) c.reserve.ensures.items) c.args.key
+    c.in_ok-number.number c.args.now c.in_ok-number.ensures.ok c.add.ensures.sound
