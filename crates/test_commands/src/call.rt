@@ -11,10 +11,9 @@ use std::alloc::Global;
 use step_count::{CountLedger, Steps};
 use test_rows::{Field, Row};
 
-/// How a call ended, and what it left.
+/// What a command is given, and what it leaves.
 #[derive(Drop)]
-pub(crate) struct Ended {
-    pub status: Status,
+pub(crate) struct Given {
     pub store: MemStore,
     pub links: FaultLinks,
     pub disk: MemDisk,
@@ -28,43 +27,55 @@ pub(crate) struct Ended {
 const ROOM: u64 = 1 << 20;
 
 /// Carries out the command of a row.
-pub(crate) fn call(alloc: Global, row: &Row) -> Result<Ended, Fault> {
-    let mut store = store_of(alloc, row)?;
-    let mut links = links_of(alloc, row)?;
-    let mut disk = disk_of(alloc, row)?;
-    let room = number_of(row, "room")?.unwrap_or(ROOM);
-    let mut out = sink_of(alloc, row, "fail out", room)?;
-    let mut err = sink_of(alloc, row, "fail err", ROOM)?;
-    let mut patterns = ListPatterns {
-        refusals: 0,
-        refused: Texts::fresh(alloc),
-    };
-    let mut steps = Steps::fresh(CountLedger {
-        forks: 0,
-        entries: 0,
-    });
+pub(crate) fn call(alloc: Global, row: &Row, given: &mut Given) -> Result<Status, Fault> {
     let arguments = arguments_of(alloc, row)?;
-    let status = run(
+    Ok(run(
         alloc,
         arguments,
-        &mut store,
-        &mut links,
-        &mut disk,
-        &mut out,
-        &mut err,
-        &mut patterns,
-        &mut steps,
-    );
-    Ok(Ended {
-        status,
+        &mut given.store,
+        &mut given.links,
+        &mut given.disk,
+        &mut given.out,
+        &mut given.err,
+        &mut given.patterns,
+        &mut given.steps,
+    ))
+}
+
+/// What the row gives its command.
+pub(crate) fn given_of(alloc: Global, row: &Row) -> Result<Given, Fault> {
+    let (store, links, disk) = ports_of(alloc, row)?;
+    let (out, err) = sinks_of(alloc, row)?;
+    Ok(Given {
         store,
         links,
         disk,
         out,
         err,
-        patterns,
-        steps,
+        patterns: ListPatterns {
+            refusals: 0,
+            refused: Texts::fresh(alloc),
+        },
+        steps: Steps::fresh(CountLedger {
+            forks: 0,
+            entries: 0,
+        }),
     })
+}
+
+fn ports_of(alloc: Global, row: &Row) -> Result<(MemStore, FaultLinks, MemDisk), Fault> {
+    let store = store_of(alloc, row)?;
+    let links = links_of(alloc, row)?;
+    let disk = disk_of(alloc, row)?;
+    Ok((store, links, disk))
+}
+
+/// The output and the error stream.
+fn sinks_of(alloc: Global, row: &Row) -> Result<(MemSink, MemSink), Fault> {
+    let room = number_of(row, "room")?.unwrap_or(ROOM);
+    let out = sink_of(alloc, row, "fail out", room)?;
+    let err = sink_of(alloc, row, "fail err", ROOM)?;
+    Ok((out, err))
 }
 
 /// A store with the files of the row.
