@@ -52,6 +52,37 @@ fn all_but(alloc: Global, count: u64, left_out: u64) -> Result<Wants, Memory> {
     Ok(wants)
 }
 
+/// The next turn of links that wait for all there is on `count` links from 0 on, and not on the one that was left out.
+fn turn_of<L: Links>(
+    alloc: Global,
+    links: &mut L,
+    buf: &mut [u8],
+    count: u64,
+    left_out: u64,
+) -> What {
+    match all_but(alloc, count, left_out) {
+        Ok(wants) => next_turn(alloc, links, &wants, buf),
+        Err(Memory) => What::Memory,
+    }
+}
+
+/// A client that opens this link, after all those of smaller numbers.
+fn client<R: Net + Clock>(
+    rt: &R,
+    alloc: Global,
+    links: &mut MioLinks<'_, R>,
+    address: &str,
+    buf: &mut [u8],
+    link: u64,
+) -> Result<R::Stream, Fail> {
+    let client = TcpStream::connect(rt, address)?;
+    if turn_of(alloc, links, buf, link, link) == (What::Opened { link }) {
+        Ok(client)
+    } else {
+        Err(Fail::from("not opened"))
+    }
+}
+
 /// Connects 256 clients, each of which opens a link.
 fn fill<R: Net + Clock>(
     rt: &R,
@@ -62,30 +93,23 @@ fn fill<R: Net + Clock>(
 ) -> Result<Vec<R::Stream>, Fail> {
     let mut clients = Vec::new(alloc);
     for link in 0..256u64 {
-        clients.push(TcpStream::connect(rt, address)?)?;
-        let wants = all_but(alloc, link, link)?;
-        let opened = What::Opened { link };
-        if next_turn(alloc, links, &wants, buf) != opened {
-            return Err(Fail::from("not opened"));
-        }
+        clients.push(client(rt, alloc, links, address, buf, link)?)?;
     }
     Ok(clients)
 }
 
-/// What the next turn is when one more client comes. Its link is closed again.
-fn one_more<R: Net + Clock>(
+/// Connects one more client, whose link is closed again.
+fn open_one_more<R: Net + Clock>(
     rt: &R,
     alloc: Global,
     links: &mut MioLinks<'_, R>,
     address: &str,
-    wants: &Wants,
     buf: &mut [u8],
-) -> Result<What, Fail> {
-    let client = TcpStream::connect(rt, address)?;
-    let what = next_turn(alloc, links, wants, buf);
+) -> Result<(), Fail> {
+    let client = client(rt, alloc, links, address, buf, 256)?;
     links.close(256);
     drop(client);
-    Ok(what)
+    Ok(())
 }
 
 /// The first client sends a byte.
@@ -97,6 +121,52 @@ fn send_byte<S: Write>(clients: &mut [S]) -> Result<(), Fail> {
     Ok(())
 }
 
+/// Whether link 1 is given up for one more client.
+fn is_second_given_up<R: Net + Clock>(
+    rt: &R,
+    alloc: Global,
+    links: &mut MioLinks<'_, R>,
+    address: &str,
+    buf: &mut [u8],
+) -> io::Result<bool> {
+    let late = TcpStream::connect(rt, address)?;
+    let broken = turn_of(alloc, links, buf, 256, 256) == (What::Broken { link: 1 });
+    links.close(1);
+    let opened = turn_of(alloc, links, buf, 256, 1) == (What::Opened { link: 257 });
+    drop(late);
+    Ok(broken && opened)
+}
+
+/// Whether link 1 is given up after ten minutes, and no link a second before, where the client of link 0 was heard.
+fn is_given_up_late<'b, R: Net, S: Write>(
+    clock: &SetClock<'b, R>,
+    alloc: Global,
+    links: &mut MioLinks<'_, SetClock<'b, R>>,
+    address: &str,
+    buf: &mut [u8],
+    clients: &mut [S],
+) -> Result<bool, Fail> {
+    clock.secs.set(599);
+    open_one_more(clock, alloc, links, address, buf)?;
+    send_byte(clients)?;
+    let heard = turn_of(alloc, links, buf, 256, 256) == (What::Read { link: 0, count: 1 });
+    clock.secs.set(600);
+    let given_up = is_second_given_up(clock, alloc, links, address, buf)?;
+    Ok(heard && given_up)
+}
+
+/// Whether one of 256 silent links is given up in time.
+fn is_one_given_up<'b, R: Net>(
+    clock: &SetClock<'b, R>,
+    alloc: Global,
+    links: &mut MioLinks<'_, SetClock<'b, R>>,
+    address: &str,
+    buf: &mut [u8],
+) -> Result<bool, Fail> {
+    let mut clients = fill(clock, alloc, links, address, buf)?;
+    is_given_up_late(clock, alloc, links, address, buf, clients.as_mut_slice())
+}
+
 /// Whether a link is given up for its silence after ten minutes, and not a second before.
 fn is_given_up<'b, R: Net>(
     clock: &SetClock<'b, R>,
@@ -104,27 +174,8 @@ fn is_given_up<'b, R: Net>(
     links: &mut MioLinks<'_, SetClock<'b, R>>,
 ) -> Result<bool, Fail> {
     let mut buf = vec![in alloc; 0; 65_536]?;
-    let buf = buf.as_mut_slice();
-    let address = listen(alloc, links)?.ok_or("no port")?;
-    let mut clients = fill(clock, alloc, links, address.as_str(), buf)?;
-    let wants = all_but(alloc, 256, 256)?;
-    clock.secs.set(599);
-    let before = one_more(clock, alloc, links, address.as_str(), &wants, buf)?;
-    send_byte(clients.as_mut_slice())?;
-    let heard = next_turn(alloc, links, &wants, buf);
-    clock.secs.set(600);
-    let late = TcpStream::connect(clock, address.as_str())?;
-    let broken = next_turn(alloc, links, &wants, buf);
-    links.close(1);
-    let wants = all_but(alloc, 256, 1)?;
-    let opened = next_turn(alloc, links, &wants, buf);
-    drop(late);
-    Ok(
-        before == What::Opened { link: 256 }
-            && heard == What::Read { link: 0, count: 1 }
-            && broken == What::Broken { link: 1 }
-            && opened == What::Opened { link: 257 },
-    )
+    let address = listen(alloc, links)?;
+    is_one_given_up(clock, alloc, links, address.as_str(), buf.as_mut_slice())
 }
 
 #[test]

@@ -19,10 +19,7 @@ pub(crate) fn all_of(link: u64) -> Want {
 
 /// The server waits for all there is on links 0 and 1.
 fn both(alloc: Global) -> Result<Wants, Memory> {
-    let mut wants = Wants::fresh(alloc);
-    wants.push(alloc, all_of(0))?;
-    wants.push(alloc, all_of(1))?;
-    Ok(wants)
+    Ok(Wants::from_vec(vec![in alloc; all_of(0), all_of(1)]?))
 }
 
 /// What the links answer when they are to listen on the address.
@@ -35,15 +32,35 @@ pub(crate) fn listen_on<L: Links>(
     Ok(links.listen(alloc, &address))
 }
 
+/// Whether the links are ready when they are to listen on the address.
+pub(crate) fn is_ready<L: Links>(alloc: Global, links: &mut L, address: &str) -> bool {
+    matches!(
+        listen_on(alloc, links, address),
+        Ok(ListenAnswer::Ready { .. })
+    )
+}
+
+/// Whether the links fail to listen on the address.
+fn fails_to_listen<L: Links>(alloc: Global, links: &mut L, address: &str) -> bool {
+    matches!(listen_on(alloc, links, address), Ok(ListenAnswer::Failed))
+}
+
 /// Listens on the first port from 25000 on that is free, and gives its address.
-pub(crate) fn listen<L: Links>(alloc: Global, links: &mut L) -> Result<Option<String>, Fail> {
+pub(crate) fn listen<L: Links>(alloc: Global, links: &mut L) -> Result<String, Fail> {
     for port in 25_000u16..25_200 {
         let address = format!(in alloc; "127.0.0.1:{port}")?;
-        if let ListenAnswer::Ready { .. } = listen_on(alloc, links, address.as_str())? {
-            return Ok(Some(address));
+        if is_ready(alloc, links, address.as_str()) {
+            return Ok(address);
         }
     }
-    Ok(None)
+    Err(Fail::from("no port"))
+}
+
+/// Two clients that are connected to the address.
+fn two_clients<R: Net>(rt: &R, address: &str) -> io::Result<(R::Stream, R::Stream)> {
+    let first = TcpStream::connect(rt, address)?;
+    let second = TcpStream::connect(rt, address)?;
+    Ok((first, second))
 }
 
 /// Two clients that are connected to the links.
@@ -52,10 +69,8 @@ fn connect<R: Net + Clock>(
     alloc: Global,
     links: &mut MioLinks<'_, R>,
 ) -> Result<(R::Stream, R::Stream), Fail> {
-    let address = listen(alloc, links)?.ok_or("no port")?;
-    let first = TcpStream::connect(rt, address.as_str())?;
-    let second = TcpStream::connect(rt, address.as_str())?;
-    Ok((first, second))
+    let address = listen(alloc, links)?;
+    Ok(two_clients(rt, address.as_str())?)
 }
 
 /// The next turn that is not idle, of the next fifty.
@@ -77,15 +92,15 @@ pub(crate) fn next_turn<L: Links>(
     What::Idle
 }
 
-/// Whether a send of these bytes is answered so.
+/// Whether a send of this text is answered so.
 pub(crate) fn is_sent<L: Links>(
     alloc: Global,
     links: &mut L,
     link: u64,
-    bytes: &[u8],
+    text: &str,
     answer: SendAnswer,
 ) -> bool {
-    !bytes.is_empty() && links.send(alloc, link, bytes) == answer
+    !text.is_empty() && links.send(alloc, link, text.as_bytes()) == answer
 }
 
 /// Whether the next turn is that both clients are connected.
@@ -94,7 +109,7 @@ fn are_opened<L: Links>(alloc: Global, links: &mut L, wants: &Wants, buf: &mut [
         && next_turn(alloc, links, wants, buf) == What::Opened { link: 1 }
 }
 
-/// Whether a byte that the client writes comes on the link.
+/// Whether a text that the client writes comes on the link.
 fn is_heard<L: Links>(
     alloc: Global,
     links: &mut L,
@@ -102,25 +117,24 @@ fn is_heard<L: Links>(
     buf: &mut [u8],
     client: &mut TcpStream,
     link: u64,
+    text: &str,
 ) -> io::Result<bool> {
-    client.write_all(b"x")?;
-    Ok(next_turn(alloc, links, wants, buf) == What::Read { link, count: 1 })
+    client.write_all(text.as_bytes())?;
+    let count = text.len();
+    Ok(next_turn(alloc, links, wants, buf) == What::Read { link, count })
 }
 
-/// Whether five bytes come from the client of link 1, and five others go to it.
+/// Whether five bytes that are sent on link 1 come to its client.
 fn is_answered<L: Links>(
     alloc: Global,
     links: &mut L,
-    wants: &Wants,
-    buf: &mut [u8],
     client: &mut TcpStream,
+    text: &str,
 ) -> io::Result<bool> {
-    client.write_all(b"hello")?;
-    let came = next_turn(alloc, links, wants, buf) == What::Read { link: 1, count: 5 };
-    let sent = is_sent(alloc, links, 1, b"world", SendAnswer::Took { count: 5 });
+    let sent = is_sent(alloc, links, 1, text, SendAnswer::Took { count: 5 });
     let mut reply = [0u8; 5];
     client.read_exact(&mut reply)?;
-    Ok(came && sent && reply.as_slice() == b"world".as_slice())
+    Ok(sent && reply.as_slice() == text.as_bytes())
 }
 
 /// Whether link 1 ends as its client sends nothing more. Then it is closed.
@@ -137,29 +151,58 @@ fn is_ended<R: Net + Clock>(
     Ok(ended)
 }
 
+/// Whether five bytes come from the client of link 1, five others go to it, and its link ends.
+fn is_second_served<R: Net + Clock>(
+    alloc: Global,
+    links: &mut MioLinks<'_, R>,
+    wants: &Wants,
+    buf: &mut [u8],
+    client: &mut TcpStream,
+) -> io::Result<bool> {
+    let heard = is_heard(alloc, links, wants, buf, client, 1, "hello")?;
+    let answered = is_answered(alloc, links, client, "world")?;
+    let ended = is_ended(alloc, links, wants, buf, client)?;
+    Ok(heard && answered && ended)
+}
+
+/// Whether the second client is served, and then the first one.
+fn are_served<R: Net + Clock>(
+    alloc: Global,
+    links: &mut MioLinks<'_, R>,
+    wants: &Wants,
+    buf: &mut [u8],
+    first: &mut TcpStream,
+    second: &mut TcpStream,
+) -> io::Result<bool> {
+    let opened = are_opened(alloc, links, wants, buf);
+    let second_served = is_second_served(alloc, links, wants, buf, second)?;
+    let first_heard = is_heard(alloc, links, wants, buf, first, 0, "x")?;
+    Ok(opened && second_served && first_heard)
+}
+
 /// Whether two clients are served.
 fn serves<R: Net + Clock>(
     alloc: Global,
     links: &mut MioLinks<'_, R>,
     first: &mut TcpStream,
     second: &mut TcpStream,
-) -> Result<bool, Fail> {
+) -> Result<bool, Memory> {
     let wants = both(alloc)?;
     let mut buf = vec![in alloc; 0; 65_536]?;
-    let buf = buf.as_mut_slice();
-    Ok(
-        are_opened(alloc, links, &wants, buf)
-            && is_answered(alloc, links, &wants, buf, second)?
-            && is_ended(alloc, links, &wants, buf, second)?
-            && is_heard(alloc, links, &wants, buf, first, 0)?,
-    )
+    let served = are_served(alloc, links, &wants, buf.as_mut_slice(), first, second);
+    Ok(matches!(served, Ok(true)))
 }
 
 #[test]
 fn links_over_sockets_are_served(rt: HostRuntime) -> Result<(), Fail> {
     let mut links = MioLinks::fresh(&rt, rt.alloc())?;
     let (mut first, mut second) = connect(&rt, rt.alloc(), &mut links)?;
-    assert!(rt; serves(rt.alloc(), &mut links, &mut first, &mut second)?);
+    assert!(rt;
+        matches!(
+            serves(rt.alloc(), &mut links, &mut first, &mut second),
+            Ok(true)
+        )
+    );
     Ok(())
 }
 
@@ -200,11 +243,18 @@ fn is_heard_beside_a_full_link<L: Links>(
     other: &mut TcpStream,
 ) -> io::Result<bool> {
     let filled = fill(alloc, links, buf);
-    let later = is_sent(alloc, links, 0, b"more", SendAnswer::Later);
-    let heard = is_heard(alloc, links, wants, buf, other, 1)?;
+    let later = is_sent(alloc, links, 0, "more", SendAnswer::Later);
+    let heard = is_heard(alloc, links, wants, buf, other, 1, "x")?;
     let drained = is_drained(full, buf, filled)?;
     let room = next_turn(alloc, links, wants, buf) == What::Room { link: 0 };
     Ok(later && heard && drained && room)
+}
+
+/// The first client sends two bytes more than a read takes, and the other one byte.
+fn send_more_and_less(busy: &mut TcpStream, other: &mut TcpStream, block: &[u8]) -> io::Result<()> {
+    busy.write_all(block)?;
+    busy.write_all("yz".as_bytes())?;
+    other.write_all("x".as_bytes())
 }
 
 /// Whether the other client is heard in two turns though one of link 0 sends more than a read takes.
@@ -216,9 +266,7 @@ fn is_heard_beside_a_busy_link<L: Links>(
     busy: &mut TcpStream,
     other: &mut TcpStream,
 ) -> io::Result<bool> {
-    busy.write_all(buf)?;
-    busy.write_all(b"yz")?;
-    other.write_all(b"x")?;
+    send_more_and_less(busy, other, buf)?;
     let one = What::Read { link: 1, count: 1 };
     let first = next_turn(alloc, links, wants, buf);
     let second = next_turn(alloc, links, wants, buf);
@@ -233,11 +281,40 @@ fn is_broken<L: Links>(
     buf: &mut [u8],
     client: TcpStream,
 ) -> bool {
-    let sent = is_sent(alloc, links, 1, b"unread", SendAnswer::Took { count: 6 });
+    let sent = is_sent(alloc, links, 1, "unread", SendAnswer::Took { count: 6 });
     drop(client);
     let broken = What::Broken { link: 1 };
     let first = next_turn(alloc, links, wants, buf);
     sent && (first == broken || next_turn(alloc, links, wants, buf) == broken)
+}
+
+/// Whether the other client is heard beside one of link 0 that reads nothing, and then sends more than a read takes.
+fn is_heard_beside_another<L: Links>(
+    alloc: Global,
+    links: &mut L,
+    wants: &Wants,
+    buf: &mut [u8],
+    busy: &mut TcpStream,
+    other: &mut TcpStream,
+) -> io::Result<bool> {
+    let opened = are_opened(alloc, links, wants, buf);
+    let beside_full = is_heard_beside_a_full_link(alloc, links, wants, buf, busy, other)?;
+    let beside_busy = is_heard_beside_a_busy_link(alloc, links, wants, buf, busy, other)?;
+    Ok(opened && beside_full && beside_busy)
+}
+
+/// Whether the other client is heard until it is gone.
+fn is_heard_to_its_end<L: Links>(
+    alloc: Global,
+    links: &mut L,
+    wants: &Wants,
+    buf: &mut [u8],
+    busy: &mut TcpStream,
+    mut other: TcpStream,
+) -> io::Result<bool> {
+    let heard = is_heard_beside_another(alloc, links, wants, buf, busy, &mut other)?;
+    let broken = is_broken(alloc, links, wants, buf, other);
+    Ok(heard && broken)
 }
 
 /// Whether no client keeps the other waiting.
@@ -245,31 +322,29 @@ fn shares<L: Links>(
     alloc: Global,
     links: &mut L,
     busy: &mut TcpStream,
-    mut other: TcpStream,
-) -> Result<bool, Fail> {
+    other: TcpStream,
+) -> Result<bool, Memory> {
     let wants = both(alloc)?;
     let mut buf = vec![in alloc; 0; 65_536]?;
-    let buf = buf.as_mut_slice();
-    let fair = are_opened(alloc, links, &wants, buf)
-        && is_heard_beside_a_full_link(alloc, links, &wants, buf, busy, &mut other)?
-        && is_heard_beside_a_busy_link(alloc, links, &wants, buf, busy, &mut other)?;
-    Ok(fair && is_broken(alloc, links, &wants, buf, other))
+    let heard = is_heard_to_its_end(alloc, links, &wants, buf.as_mut_slice(), busy, other);
+    Ok(matches!(heard, Ok(true)))
 }
 
 #[test]
 fn no_link_keeps_another_waiting(rt: HostRuntime) -> Result<(), Fail> {
     let mut links = MioLinks::fresh(&rt, rt.alloc())?;
     let (mut busy, other) = connect(&rt, rt.alloc(), &mut links)?;
-    assert!(rt; shares(rt.alloc(), &mut links, &mut busy, other)?);
+    assert!(rt; matches!(shares(rt.alloc(), &mut links, &mut busy, other), Ok(true)));
     Ok(())
 }
 
-/// Whether the links fail to listen on an address that others listen on, and on one without a port.
+/// Whether others fail to listen on the address of the links, and on one without a port.
 fn are_refused<L: Links>(alloc: Global, links: &mut L, others: &mut L) -> Result<bool, Fail> {
-    let address = listen(alloc, links)?.ok_or("no port")?;
-    let in_use = listen_on(alloc, others, address.as_str())?;
-    let without_port = listen_on(alloc, others, "127.0.0.1")?;
-    Ok(in_use == ListenAnswer::Failed && without_port == ListenAnswer::Failed)
+    let address = listen(alloc, links)?;
+    Ok(
+        fails_to_listen(alloc, others, address.as_str())
+            && fails_to_listen(alloc, others, "127.0.0.1"),
+    )
 }
 
 #[test]

@@ -17,11 +17,19 @@ enum Wanted<'a> {
 /// A name, a limit, the answer, and how many bytes were taken and how many reads failed until then.
 type Row<'a> = (&'a str, u32, Wanted<'a>, u64, u64);
 
-fn is_wanted(answer: &ReadAnswer, wanted: Wanted) -> bool {
-    match (answer, wanted) {
-        (ReadAnswer::Bytes(bytes), Wanted::Bytes(wanted)) => bytes.as_slice() == wanted,
-        (ReadAnswer::Failed, Wanted::Failed) | (ReadAnswer::TooLong, Wanted::TooLong) => true,
+/// Whether the read gave these bytes.
+fn has_bytes(answer: &ReadAnswer, wanted: &[u8]) -> bool {
+    match answer {
+        ReadAnswer::Bytes(bytes) => bytes.as_slice() == wanted,
         _ => false,
+    }
+}
+
+fn is_wanted(answer: &ReadAnswer, wanted: Wanted) -> bool {
+    match wanted {
+        Wanted::Bytes(wanted) => has_bytes(answer, wanted),
+        Wanted::Failed => matches!(answer, ReadAnswer::Failed),
+        Wanted::TooLong => matches!(answer, ReadAnswer::TooLong),
     }
 }
 
@@ -33,18 +41,24 @@ fn is_read<S: Store>(alloc: Global, store: &mut S, row: &Row) -> Result<bool, Me
 }
 
 fn file(alloc: Global, name: &str, bytes: &str) -> Result<(Text, Blob), Memory> {
+    let bytes = Blob::from_slice(alloc, bytes.as_bytes())?;
     let name = Text::from_str(alloc, name)?;
-    Ok((name, Blob::from_slice(alloc, bytes.as_bytes())?))
+    Ok((name, bytes))
 }
 
-/// A store in memory of these files, of whose reads the one with the number 2 fails.
-fn store(alloc: Global, rows: &[(&str, &str)]) -> Result<MemStore, Memory> {
+/// The files of these names and contents.
+fn files(alloc: Global, rows: &[(&str, &str)]) -> Result<Vec<(Text, Blob)>, Memory> {
     let mut files = Vec::new(alloc);
     for row in rows {
         files.push(file(alloc, row.0, row.1)?)?;
     }
+    Ok(files)
+}
+
+/// A store in memory of these files, of whose reads the one with the number 2 fails.
+fn store(alloc: Global, rows: &[(&str, &str)]) -> Result<MemStore, Memory> {
     let failing = vec![in alloc; 2]?;
-    Ok(MemStore::fresh(alloc, files, failing))
+    Ok(MemStore::fresh(alloc, files(alloc, rows)?, failing))
 }
 
 /// Whether the reads of the rows are answered so.
@@ -97,11 +111,14 @@ fn a_store_in_memory_answers_by_name_limit_and_number(rt: HostRuntime) -> Result
     Ok(())
 }
 
+/// Whether all the bytes are taken or not, as given.
+fn takes<S: Sink>(sink: &mut S, bytes: &str, taken: bool) -> bool {
+    !bytes.is_empty() && sink.put(bytes.as_bytes()).is_ok() == taken
+}
+
 /// Whether all the bytes are taken or not, as given, and the sink then holds this text.
 fn is_put(sink: &mut MemSink, bytes: &str, taken: bool, text: &str) -> bool {
-    !bytes.is_empty()
-        && sink.put(bytes.as_bytes()).is_ok() == taken
-        && sink.text.as_slice() == text.as_bytes()
+    takes(sink, bytes, taken) && sink.text.as_slice() == text.as_bytes()
 }
 
 /// Whether the sink takes what it has room for, and no put that fails.
@@ -165,15 +182,26 @@ fn is_limited<R: Files>(
     matches!(are_filed(alloc, store, &rows), Ok(true))
 }
 
+/// Whether these 200,000 bytes, which are written to the path and removed again, are read within the limit.
+fn are_limited<R: Files>(rt: &R, alloc: Global, path: &str, bytes: &[u8]) -> io::Result<bool> {
+    fs::write(rt, path, bytes)?;
+    let limited = is_limited(alloc, &mut FileStore::fresh(rt), path, bytes);
+    fs::remove_file(rt, path)?;
+    Ok(limited)
+}
+
+/// Whether a file of this path with 200,000 bytes is read within the limit.
+fn is_file_limited<R: Files>(rt: &R, alloc: Global, path: &str) -> bool {
+    match content(alloc) {
+        Ok(bytes) => matches!(are_limited(rt, alloc, path, bytes.as_slice()), Ok(true)),
+        Err(_) => false,
+    }
+}
+
 #[test]
 fn files_are_read_within_the_limit(rt: HostRuntime) -> Result<(), Fail> {
-    let bytes = content(rt.alloc())?;
     let path = format!(in rt.alloc(); "/tmp/ports_file_store_{}", process::id(rt.process()))?;
-    fs::write(&rt, path.as_str(), bytes.as_slice())?;
-    let mut store = FileStore::fresh(&rt);
-    let limited = is_limited(rt.alloc(), &mut store, path.as_str(), bytes.as_slice());
-    fs::remove_file(&rt, path.as_str())?;
-    assert!(rt; limited);
+    assert!(rt; is_file_limited(&rt, rt.alloc(), path.as_str()));
     Ok(())
 }
 
@@ -206,9 +234,7 @@ impl io::Write for Narrow {
 
 /// Whether all the bytes are written or not, as given, and the writer then has got this text.
 fn is_streamed(sink: &mut StreamSink<Narrow>, bytes: &str, written: bool, text: &str) -> bool {
-    !bytes.is_empty()
-        && sink.put(bytes.as_bytes()).is_ok() == written
-        && sink.writer.bytes.as_slice() == text.as_bytes()
+    takes(sink, bytes, written) && sink.writer.bytes.as_slice() == text.as_bytes()
 }
 
 /// Whether the writer gets what it has room for, and one put fails.
