@@ -1,15 +1,20 @@
 use crate::packed::{FULL, LAST, packed};
 use ev_types::{Event, Field, Memory, Text, Value};
 use event_fields::{EventFields, holds_value};
+use packed_event::PackedEvent;
 use std::alloc::Global;
 use std::test::Fail;
 
+fn has_text<E: EventFields>(event: &E, field: &Field, text: &str) -> bool {
+    event.text_in(field) == Some(text)
+}
+
 /// Whether the event holds the texts that [`FULL`] does.
 fn has_texts<E: EventFields>(event: &E) -> bool {
-    event.text_in(&Field::Host) == Some("a")
-        && event.text_in(&Field::Service) == Some("bb")
-        && event.text_in(&Field::State) == Some("ok")
-        && event.text_in(&Field::Description) == Some("d")
+    has_text(event, &Field::Host, "a")
+        && has_text(event, &Field::Service, "bb")
+        && has_text(event, &Field::State, "ok")
+        && has_text(event, &Field::Description, "d")
 }
 
 /// Whether the event holds the numbers that [`FULL`] does.
@@ -21,22 +26,42 @@ fn has_numbers<E: EventFields>(event: &E) -> bool {
         && !holds_value(event, &Field::Metric, &Value::Nil)
 }
 
-/// Whether the event has an attribute of this key with this value.
+/// The attribute of this name, as a field.
+fn attribute(alloc: Global, name: &str) -> Result<Field, Memory> {
+    Ok(Field::Attribute(Text::from_str(alloc, name)?))
+}
+
+/// Whether the event has this text in the field.
+fn holds_text<E: EventFields>(
+    alloc: Global,
+    event: &E,
+    field: &Field,
+    text: &str,
+) -> Result<bool, Memory> {
+    let value = Value::Text(Text::from_str(alloc, text)?);
+    Ok(has_text(event, field, text) && holds_value(event, field, &value))
+}
+
+/// Whether the event has an attribute of this name with this text.
 fn has_attribute<E: EventFields>(
     alloc: Global,
     event: &E,
-    key: &str,
+    name: &str,
     text: &str,
 ) -> Result<bool, Memory> {
-    let key = Field::Attribute(Text::from_str(alloc, key)?);
-    let value = Value::Text(Text::from_str(alloc, text)?);
-    Ok(event.text_in(&key) == Some(text) && holds_value(event, &key, &value))
+    let field = attribute(alloc, name)?;
+    holds_text(alloc, event, &field, text)
 }
 
-/// Whether the event has no attribute of this key with a value.
-fn lacks_attribute<E: EventFields>(alloc: Global, event: &E, key: &str) -> Result<bool, Memory> {
-    let key = Field::Attribute(Text::from_str(alloc, key)?);
-    Ok(event.text_in(&key).is_none() && holds_value(event, &key, &Value::Nil))
+/// Whether the event has no text in the field.
+fn lacks_text<E: EventFields>(event: &E, field: &Field) -> bool {
+    event.text_in(field).is_none()
+}
+
+/// Whether the event has no attribute of this name with a value.
+fn lacks_attribute<E: EventFields>(alloc: Global, event: &E, name: &str) -> Result<bool, Memory> {
+    let field = attribute(alloc, name)?;
+    Ok(lacks_text(event, &field) && holds_value(event, &field, &Value::Nil))
 }
 
 fn has_tag<E: EventFields>(alloc: Global, event: &E, tag: &str) -> Result<bool, Memory> {
@@ -44,40 +69,72 @@ fn has_tag<E: EventFields>(alloc: Global, event: &E, tag: &str) -> Result<bool, 
     Ok(event.is_tagged(&tag))
 }
 
+/// Whether the event has the attributes and the tags that [`FULL`] does.
+fn has_lists<E: EventFields>(alloc: Global, event: &E) -> Result<bool, Memory> {
+    let k = has_attribute(alloc, event, "k", "v")?;
+    let l = lacks_attribute(alloc, event, "l")?;
+    let tagged = has_tag(alloc, event, "t")?;
+    let others = has_tag(alloc, event, "k")?;
+    Ok(k && l && tagged && !others)
+}
+
 /// Whether the event holds what [`FULL`] does in each field.
 fn is_full<E: EventFields>(alloc: Global, event: &E) -> Result<bool, Memory> {
-    let has_attributes = has_attribute(alloc, event, "k", "v")?
-        && lacks_attribute(alloc, event, "l")?;
-    let has_tags = has_tag(alloc, event, "t")? && !has_tag(alloc, event, "k")?;
-    Ok(has_texts(event) && has_numbers(event) && has_attributes && has_tags)
+    let has_lists = has_lists(alloc, event)?;
+    Ok(has_lists && has_texts(event) && has_numbers(event))
+}
+
+/// Whether the fields of [`FULL`] are read from its bytes.
+fn is_packed_full(alloc: Global) -> Result<bool, Memory> {
+    let full = packed(alloc, FULL)?;
+    is_full(alloc, &full)
 }
 
 #[test]
 fn fields_are_read_from_the_bytes(rt: HostRuntime) -> Result<(), Fail> {
-    let full = packed(rt.alloc(), FULL)?;
-    let is_full = is_full(rt.alloc(), &full)?;
+    let is_full = is_packed_full(rt.alloc())?;
     assert!(rt; is_full);
     Ok(())
 }
 
+/// Whether the event has the fields of [`FULL`] after it was unpacked.
+fn is_full_unpacked(alloc: Global, packed: &PackedEvent) -> Result<bool, Memory> {
+    let event = packed.unpack(alloc)?;
+    is_full(alloc, &event)
+}
+
+/// Whether the event of [`FULL`] has the same fields after it was unpacked.
+fn is_unpacked_full(alloc: Global) -> Result<bool, Memory> {
+    let full = packed(alloc, FULL)?;
+    is_full_unpacked(alloc, &full)
+}
+
 #[test]
 fn fields_of_an_unpacked_event_are_the_same(rt: HostRuntime) -> Result<(), Fail> {
-    let full = packed(rt.alloc(), FULL)?;
-    let event = full.unpack(rt.alloc())?;
-    let is_full = is_full(rt.alloc(), &event)?;
+    let is_full = is_unpacked_full(rt.alloc())?;
     assert!(rt; is_full);
     Ok(())
+}
+
+/// Whether the fields are absent that [`LAST`] does not have.
+fn are_absent(last: &PackedEvent) -> bool {
+    last.state() == Some("expired")
+        && last.description().is_none()
+        && last.metric().is_none()
+        && lacks_text(last, &Field::Host)
+        && last.number_in(&Field::Ttl).is_none()
+}
+
+/// Whether an event that owns its parts has no state if none was given.
+fn is_stateless(alloc: Global) -> bool {
+    let event = Event::at(alloc, 0);
+    lacks_text(&event, &Field::State)
 }
 
 #[test]
 fn fields_that_are_absent_are_not_read(rt: HostRuntime) -> Result<(), Fail> {
     let last = packed(rt.alloc(), LAST)?;
-    assert!(rt; last.state() == Some("expired"));
-    assert!(rt; last.description().is_none());
-    assert!(rt; last.metric().is_none());
-    assert!(rt; last.text_in(&Field::Host).is_none());
-    assert!(rt; last.number_in(&Field::Ttl).is_none());
-    let event = Event::at(rt.alloc(), 0);
-    assert!(rt; event.text_in(&Field::State).is_none());
+    assert!(rt; are_absent(&last));
+    assert!(rt; is_stateless(rt.alloc()));
     Ok(())
 }

@@ -1,8 +1,27 @@
-use crate::packed::{FULL, LAST};
+use crate::packed::{FULL, LAST, is_packed_as};
 use ev_types::Event;
-use packed_event::{PackedEvent, PackedRef};
+use packed_event::{PackFault, PackedRef};
 use std::alloc::Global;
 use std::test::Fail;
+
+/// Whether the parts are those of [`FULL`].
+fn are_of_full(event: &PackedRef<'_>) -> bool {
+    event.bytes() == FULL
+        && event.host() == Some("a")
+        && event.service() == Some("bb")
+        && event.time() == 1
+        && event.ttl() == Some(60)
+        && !event.ends_key()
+}
+
+/// Whether the parts are those of [`LAST`].
+fn are_of_last(event: &PackedRef<'_>) -> bool {
+    event.host().is_none()
+        && event.service() == Some("s")
+        && event.time() == 128
+        && event.ttl().is_none()
+        && event.ends_key()
+}
 
 #[test]
 fn parts_are_lent_from_the_bytes(rt: HostRuntime) -> Result<(), Fail> {
@@ -10,34 +29,36 @@ fn parts_are_lent_from_the_bytes(rt: HostRuntime) -> Result<(), Fail> {
         assert!(rt; false);
         return Ok(());
     };
-    assert!(rt; full.bytes() == FULL);
-    assert!(rt; full.host() == Some("a"));
-    assert!(rt; full.service() == Some("bb"));
-    assert!(rt; full.time() == 1);
-    assert!(rt; full.ttl() == Some(60));
-    assert!(rt; !full.ends_key());
-    assert!(rt; last.host().is_none());
-    assert!(rt; last.service() == Some("s"));
-    assert!(rt; last.time() == 128);
-    assert!(rt; last.ttl().is_none());
-    assert!(rt; last.ends_key());
+    assert!(rt; are_of_full(&full));
+    assert!(rt; are_of_last(&last));
     Ok(())
 }
 
 /// Whether the event that these bytes are unpacked into is packed as they are.
-fn is_unpacked(alloc: Global, event: &mut Event, bytes: &[u8]) -> Result<bool, Fail> {
-    let packed = PackedRef::of(bytes).ok_or("the bytes are written otherwise")?;
+fn is_unpacked(alloc: Global, event: &mut Event, bytes: &[u8]) -> Result<bool, PackFault> {
+    let Some(packed) = PackedRef::of(bytes) else {
+        return Ok(false);
+    };
     packed.unpack_into(alloc, event)?;
-    let again = PackedEvent::pack(alloc, event)?;
-    Ok(again.bytes() == bytes)
+    is_packed_as(alloc, event, bytes, None)
+}
+
+/// Whether the bytes of two events are unpacked into this one.
+fn are_unpacked(alloc: Global, event: &mut Event) -> Result<bool, PackFault> {
+    let full = is_unpacked(alloc, event, FULL)?;
+    let last = is_unpacked(alloc, event, LAST)?;
+    Ok(full && last)
+}
+
+/// Whether the bytes of two events are unpacked into a third one.
+fn is_used_again(alloc: Global) -> Result<bool, PackFault> {
+    let mut event = Event::at(alloc, 5);
+    are_unpacked(alloc, &mut event)
 }
 
 #[test]
 fn an_event_is_used_again(rt: HostRuntime) -> Result<(), Fail> {
-    let mut event = Event::at(rt.alloc(), 5);
-    let unpacked = is_unpacked(rt.alloc(), &mut event, FULL)?;
-    assert!(rt; unpacked);
-    let unpacked = is_unpacked(rt.alloc(), &mut event, LAST)?;
+    let unpacked = is_used_again(rt.alloc())?;
     assert!(rt; unpacked);
     Ok(())
 }

@@ -49,18 +49,37 @@ fn rule(alloc: Global, query: &str) -> Result<Pred, Memory> {
     build(alloc, rule)
 }
 
-/// Whether the event that owns its parts meets the rule, asked in each of two ways.
-fn answers(alloc: Global, rule: &mut Pred, event: &Event) -> Result<(bool, bool), Memory> {
-    let met = rule.holds(alloc, event)?;
-    Ok((met, rule.holds_of(alloc, event)?))
+/// Whether the event, packed and with its own parts, meets the rule where that is `met`. The latter is asked in each of
+/// two ways.
+fn is_met_by(
+    alloc: Global,
+    rule: &mut Pred,
+    packed: &PackedEvent,
+    event: &Event,
+    met: bool,
+) -> Result<bool, Memory> {
+    let by_packed = rule.holds_of(alloc, packed)?;
+    let by_event = rule.holds(alloc, event)?;
+    let again = rule.holds_of(alloc, event)?;
+    Ok(by_packed == met && by_event == met && again == met)
 }
 
-/// Whether the event meets the rule, if the answer is the same for the event that owns its parts.
-fn answer(alloc: Global, rule: &mut Pred, packed: &PackedEvent) -> Result<Option<bool>, Memory> {
-    let met = rule.holds_of(alloc, packed)?;
+/// Whether the event meets the rule where that is `met`, and so does the event that owns its parts.
+fn is_met(alloc: Global, rule: &mut Pred, packed: &PackedEvent, met: bool) -> Result<bool, Memory> {
     let event = packed.unpack(alloc)?;
-    let same = answers(alloc, rule, &event)? == (met, met);
-    Ok(if same { Some(met) } else { None })
+    is_met_by(alloc, rule, packed, &event, met)
+}
+
+/// Whether each of two events meets the rule where its row says so.
+fn are_met(
+    alloc: Global,
+    rule: &mut Pred,
+    full: (&PackedEvent, bool),
+    last: (&PackedEvent, bool),
+) -> Result<bool, Memory> {
+    let by_full = is_met(alloc, rule, full.0, full.1)?;
+    let by_last = is_met(alloc, rule, last.0, last.1)?;
+    Ok(by_full && by_last)
 }
 
 /// Whether the query is answered as its row says.
@@ -72,9 +91,7 @@ fn is_answered(
 ) -> Result<bool, Memory> {
     let (query, by_full, by_last) = *row;
     let mut rule = rule(alloc, query)?;
-    let full = answer(alloc, &mut rule, full)?;
-    let last = answer(alloc, &mut rule, last)?;
-    Ok(full == Some(by_full) && last == Some(by_last))
+    are_met(alloc, &mut rule, (full, by_full), (last, by_last))
 }
 
 /// The number of the first query that is answered otherwise.
@@ -91,11 +108,16 @@ fn first_that_differs(
     Ok(None)
 }
 
+/// The number of the first query that is answered otherwise by the two events.
+fn first_by_both(alloc: Global) -> Result<Option<usize>, Memory> {
+    let full = packed(alloc, FULL)?;
+    let last = packed(alloc, LAST)?;
+    first_that_differs(alloc, &full, &last)
+}
+
 #[test]
 fn rules_hold_of_packed_events_as_of_others(rt: HostRuntime) -> Result<(), Fail> {
-    let full = packed(rt.alloc(), FULL)?;
-    let last = packed(rt.alloc(), LAST)?;
-    let differs = first_that_differs(rt.alloc(), &full, &last)?;
+    let differs = first_by_both(rt.alloc())?;
     assert!(rt; differs == None, "query {differs:?}");
     Ok(())
 }
