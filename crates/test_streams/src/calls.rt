@@ -1,19 +1,17 @@
 //! Calls that no command makes: an event of the index by its key, and an event that is posted to a core.
 
-use crate::build::{event, plan, text};
+use crate::build::{event, event_of, plan, text};
 use ev_types::{Event, Memory, Notices, Text};
 use event_core::Core;
 use live_index::LiveIndex;
 use std::alloc::Global;
-use std::test::Fail;
 use step_count::{NoLedger, Steps};
 use stream_plan::ReadyPlan;
 
 /// An event of this host, service and state, each absent where it is `-`, with this ttl.
 fn state_event(alloc: Global, row: &(&str, &str, &str, u32)) -> Event {
-    let mut event = event(alloc, row.0, row.1, row.3);
-    event.state = text(alloc, row.2);
-    event
+    let (host, service) = (text(alloc, row.0), text(alloc, row.1));
+    event_of(alloc, host, service, text(alloc, row.2), row.3)
 }
 
 /// Writes events of these hosts, services, states and ttls.
@@ -52,31 +50,35 @@ fn have_ttls(alloc: Global, index: &mut LiveIndex, rows: &[(&str, &str, u32)]) -
     true
 }
 
+/// The hosts, services, states and ttls of the events that are written.
+const WRITTEN: &[(&str, &str, &str, u32)] = &[
+    ("b", "cpu", "ok", 1),
+    ("-", "-", "ok", 2),
+    ("", "-", "ok", 3),
+    ("-", "cpu", "ok", 4),
+    ("a", "cpu", "ok", 5),
+    ("c", "cpu", "ok", 6),
+    ("a", "cpu", "warning", 7),
+    ("c", "cpu", "expired", 8),
+];
+
+/// Hosts, services, and the ttls of the events that are got by them.
+const GOT: &[(&str, &str, u32)] = &[
+    ("b", "cpu", 1),
+    ("-", "-", 2),
+    ("", "-", 3),
+    ("-", "cpu", 4),
+    ("a", "cpu", 7),
+    ("c", "cpu", 0),
+    ("cpu", "a", 0),
+    ("b", "-", 0),
+    ("-", "", 0),
+    ("z", "cpu", 0),
+];
+
 /// Whether each event is got by its host and service once all are written.
 fn are_got(alloc: Global, index: &mut LiveIndex) -> bool {
-    let written = [
-        ("b", "cpu", "ok", 1),
-        ("-", "-", "ok", 2),
-        ("", "-", "ok", 3),
-        ("-", "cpu", "ok", 4),
-        ("a", "cpu", "ok", 5),
-        ("c", "cpu", "ok", 6),
-        ("a", "cpu", "warning", 7),
-        ("c", "cpu", "expired", 8),
-    ];
-    let got = [
-        ("b", "cpu", 1),
-        ("-", "-", 2),
-        ("", "-", 3),
-        ("-", "cpu", 4),
-        ("a", "cpu", 7),
-        ("c", "cpu", 0),
-        ("cpu", "a", 0),
-        ("b", "-", 0),
-        ("-", "", 0),
-        ("z", "cpu", 0),
-    ];
-    write_all(alloc, index, &written).is_ok() && have_ttls(alloc, index, &got)
+    write_all(alloc, index, WRITTEN).is_ok() && have_ttls(alloc, index, GOT)
 }
 
 #[test]
@@ -86,25 +88,33 @@ fn an_event_is_got_by_its_host_and_service(rt: HostRuntime) {
     assert!(rt; got && index.len() == 5);
 }
 
-/// Posts an event, and says how many notices it gives.
-fn post(alloc: Global, core: &mut Core) -> Result<usize, Memory> {
+/// Whether an event that is posted gives one notice.
+fn is_noticed(alloc: Global, core: &mut Core) -> bool {
     let mut notices = Notices::fresh(alloc);
     let event = event(alloc, "a", "-", 60);
-    core.post(alloc, event, &mut notices, &mut Steps::fresh(NoLedger))?;
-    Ok(notices.as_slice().len())
+    let mut steps = Steps::fresh(NoLedger);
+    let is_posted = core.post(alloc, event, &mut notices, &mut steps).is_ok();
+    is_posted && notices.as_slice().len() == 1
 }
 
 /// Whether an event that is posted gives one notice and is live.
 fn is_posted(alloc: Global, plan: ReadyPlan) -> bool {
     match Core::fresh(alloc, plan, None, 100) {
-        Ok(mut core) => matches!(post(alloc, &mut core), Ok(1)) && core.live() == 1,
+        Ok(mut core) => is_noticed(alloc, &mut core) && core.live() == 1,
+        Err(Memory) => false,
+    }
+}
+
+/// Whether an event that is posted to streams of this configuration gives one notice and is live.
+fn is_posted_to(alloc: Global, config: &str) -> bool {
+    match plan(alloc, config) {
+        Ok(plan) => is_posted(alloc, plan),
         Err(Memory) => false,
     }
 }
 
 #[test]
-fn an_event_is_posted(rt: HostRuntime) -> Result<(), Fail> {
-    let plan = plan(rt.alloc(), "(streams index (notice \"n\"))")?;
-    assert!(rt; is_posted(rt.alloc(), plan));
-    Ok(())
+fn an_event_is_posted(rt: HostRuntime) {
+    let posted = is_posted_to(rt.alloc(), "(streams index (notice \"n\"))");
+    assert!(rt; posted);
 }

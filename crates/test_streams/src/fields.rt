@@ -8,16 +8,20 @@ use flow_streams::{apply_defaults, apply_fold, apply_sets, route};
 use notice_sink::put_item;
 use pred_eval::Pred;
 use std::alloc::Global;
-use std::test::Fail;
+
+/// Appends an attribute of this key, with this value where it is not `-`.
+fn push_attribute(alloc: Global, attributes: &mut Attrs, key: &str, value: &str) {
+    if let Some(key) = text(alloc, key) {
+        let value = text(alloc, value);
+        let _ = attributes.push(alloc, Attr { key, value });
+    }
+}
 
 /// Attributes of these keys, with these values where they are not `-`.
 fn attributes(alloc: Global, rows: &[(&str, &str)]) -> Attrs {
     let mut attributes = Attrs::fresh(alloc);
     for row in rows {
-        if let Some(key) = text(alloc, row.0) {
-            let value = text(alloc, row.1);
-            let _ = attributes.push(alloc, Attr { key, value });
-        }
+        push_attribute(alloc, &mut attributes, row.0, row.1);
     }
     attributes
 }
@@ -31,9 +35,11 @@ fn bare_event(alloc: Global) -> Event {
     event
 }
 
+/// The keys and values of the attributes of the full event.
+const ATTRIBUTES: &[(&str, &str)] = &[("rack", "r7"), ("room", ""), ("rack", "r8"), ("bare", "-")];
+
 /// An event that holds something in each field but the tags, and the attribute "rack" twice.
 fn full_event(alloc: Global) -> Event {
-    let rows = [("rack", "r7"), ("room", ""), ("rack", "r8"), ("bare", "-")];
     Event {
         host: text(alloc, "a"),
         service: text(alloc, "cpu"),
@@ -46,7 +52,7 @@ fn full_event(alloc: Global) -> Event {
         metric: Some(-3),
         raw_d: Some(9),
         raw_f: Some(7),
-        attributes: attributes(alloc, &rows),
+        attributes: attributes(alloc, ATTRIBUTES),
     }
 }
 
@@ -66,92 +72,138 @@ fn value(alloc: Global, row: Row) -> Result<Value, Memory> {
     }
 }
 
-fn push_set(alloc: Global, sets: &mut Sets, name: &str, row: Row) -> Result<(), Memory> {
-    let value = value(alloc, row)?;
-    match Field::named(Text::from_str(alloc, name)?) {
-        Some(field) => sets.push(alloc, Set { field, value }),
-        None => Ok(()),
+/// The field that the name means, or none where memory is out.
+fn field(alloc: Global, name: &str) -> Option<Field> {
+    match Text::from_str(alloc, name) {
+        Ok(name) => Field::named(name),
+        Err(_) => None,
     }
 }
 
-fn sets_of(alloc: Global, rows: &[(&str, Row)]) -> Result<Sets, Memory> {
-    let mut sets = Sets::fresh(alloc);
-    for row in rows {
-        push_set(alloc, &mut sets, row.0, row.1)?;
+/// Appends a set of the named field to the value.
+fn push_value(alloc: Global, sets: &mut Sets, name: &str, value: Value) -> Result<(), Memory> {
+    match field(alloc, name) {
+        Some(field) => sets.push(alloc, Set { field, value }),
+        None => Err(Memory),
     }
-    Ok(sets)
+}
+
+fn push_set(alloc: Global, sets: &mut Sets, name: &str, row: Row) -> Result<(), Memory> {
+    match value(alloc, row) {
+        Ok(value) => push_value(alloc, sets, name, value),
+        Err(Memory) => Err(Memory),
+    }
+}
+
+fn push_sets(alloc: Global, sets: &mut Sets, rows: &[(&str, Row)]) -> Result<(), Memory> {
+    for row in rows {
+        push_set(alloc, sets, row.0, row.1)?;
+    }
+    Ok(())
+}
+
+/// Whether the time in microseconds and the raw metrics are as they were.
+fn has_raws(event: &Event) -> bool {
+    event.time_micros == Some(5_000_001) && event.raw_d == Some(9) && event.raw_f == Some(7)
+}
+
+/// Whether the item is written so in a notice.
+fn is_written(alloc: Global, item: &Item, wanted: &str) -> bool {
+    let mut out = Blob::fresh(alloc);
+    let is_put = put_item(alloc, item, &mut out).is_ok();
+    is_put && out.as_slice() == wanted.as_bytes()
 }
 
 /// Whether the event is written so in a notice, and its time in microseconds and raw metrics are as they were.
 fn is_event(alloc: Global, event: Event, wanted: &str) -> bool {
-    let raws = event.time_micros == Some(5_000_001)
-        && event.raw_d == Some(9)
-        && event.raw_f == Some(7);
-    let mut out = Blob::fresh(alloc);
-    let written = put_item(alloc, &Item::One(event), &mut out).is_ok();
-    raws && written && out.as_slice() == wanted.as_bytes()
+    let has_raws = has_raws(&event);
+    is_written(alloc, &Item::One(event), wanted) && has_raws
 }
 
 /// Whether the full event is so once the sets are made.
-fn is_set(alloc: Global, rows: &[(&str, Row)], wanted: &str) -> Result<bool, Memory> {
-    let sets = sets_of(alloc, rows)?;
-    let event = apply_sets(alloc, &sets, full_event(alloc))?;
-    Ok(is_event(alloc, event, wanted))
+fn is_full_set(alloc: Global, sets: &Sets, wanted: &str) -> bool {
+    match apply_sets(alloc, sets, full_event(alloc)) {
+        Ok(event) => is_event(alloc, event, wanted),
+        Err(Memory) => false,
+    }
 }
 
+/// Whether the full event is so once the sets of the rows are made.
+fn is_set(alloc: Global, rows: &[(&str, Row)], wanted: &str) -> bool {
+    let mut sets = Sets::fresh(alloc);
+    let is_pushed = push_sets(alloc, &mut sets, rows).is_ok();
+    is_pushed && is_full_set(alloc, &sets, wanted)
+}
+
+/// Fields that are set twice, and how the full event is then written.
+const TWICE: &[(&str, Row<'static>)] = &[
+    ("state", Row::Text("warning")),
+    ("rack", Row::Nil),
+    ("description", Row::Nil),
+    ("host", Row::Text("")),
+    ("room", Row::Text("r9")),
+    ("state", Row::Text("critical")),
+    ("rack", Row::Text("r10")),
+];
+
+const SET_TWICE: &str =
+    "{host=\"\" service=\"cpu\" state=\"critical\" time=5 ttl=60 metric=-3 @\"bare\" @\"room\"=\"r9\" @\"rack\"=\"r10\"}";
+
+/// Values that do not fit their fields, and how the full event is written.
+const MISFITS: &[(&str, Row<'static>)] = &[
+    ("ttl", Row::Number(-1)),
+    ("ttl", Row::Number(16_777_217)),
+    ("time", Row::Nil),
+    ("host", Row::Number(1)),
+    ("metric", Row::Text("1")),
+];
+
+const NOT_SET: &str =
+    "{host=\"a\" service=\"cpu\" state=\"ok\" description=\"fine\" time=5 ttl=60 metric=-3 @\"rack\"=\"r7\" @\"room\"=\"\" @\"rack\"=\"r8\" @\"bare\"}";
+
 #[test]
-fn a_field_is_set_twice_and_what_does_not_fit_is_not_set(rt: HostRuntime) -> Result<(), Fail> {
-    let twice = [
-        ("state", Row::Text("warning")),
-        ("rack", Row::Nil),
-        ("description", Row::Nil),
-        ("host", Row::Text("")),
-        ("room", Row::Text("r9")),
-        ("state", Row::Text("critical")),
-        ("rack", Row::Text("r10")),
-    ];
-    let wanted =
-        "{host=\"\" service=\"cpu\" state=\"critical\" time=5 ttl=60 metric=-3 @\"bare\" @\"room\"=\"r9\" @\"rack\"=\"r10\"}";
-    assert!(rt; is_set(rt.alloc(), &twice, wanted)?);
-    let misfits = [
-        ("ttl", Row::Number(-1)),
-        ("ttl", Row::Number(16_777_217)),
-        ("time", Row::Nil),
-        ("host", Row::Number(1)),
-        ("metric", Row::Text("1")),
-    ];
-    let wanted =
-        "{host=\"a\" service=\"cpu\" state=\"ok\" description=\"fine\" time=5 ttl=60 metric=-3 @\"rack\"=\"r7\" @\"room\"=\"\" @\"rack\"=\"r8\" @\"bare\"}";
-    assert!(rt; is_set(rt.alloc(), &misfits, wanted)?);
-    Ok(())
+fn a_field_is_set_twice_and_what_does_not_fit_is_not_set(rt: HostRuntime) {
+    assert!(rt; is_set(rt.alloc(), TWICE, SET_TWICE));
+    assert!(rt; is_set(rt.alloc(), MISFITS, NOT_SET));
 }
 
 /// Whether the event is so with the defaults.
-fn is_filled(alloc: Global, event: Event, wanted: &str) -> Result<bool, Memory> {
-    let rows = [
-        ("host", Row::Text("b")),
-        ("host", Row::Text("c")),
-        ("state", Row::Nil),
-        ("description", Row::Text("late")),
-        ("rack", Row::Text("r1")),
-        ("room", Row::Text("r2")),
-        ("bare", Row::Text("r3")),
-    ];
-    let sets = sets_of(alloc, &rows)?;
-    let event = apply_defaults(alloc, &sets, event)?;
-    Ok(is_event(alloc, event, wanted))
+fn is_filled(alloc: Global, sets: &Sets, event: Event, wanted: &str) -> bool {
+    match apply_defaults(alloc, sets, event) {
+        Ok(event) => is_event(alloc, event, wanted),
+        Err(Memory) => false,
+    }
+}
+
+/// Defaults, and how the full and the bare event are written with them.
+const DEFAULTS: &[(&str, Row<'static>)] = &[
+    ("host", Row::Text("b")),
+    ("host", Row::Text("c")),
+    ("state", Row::Nil),
+    ("description", Row::Text("late")),
+    ("rack", Row::Text("r1")),
+    ("room", Row::Text("r2")),
+    ("bare", Row::Text("r3")),
+];
+
+const FULL_FILLED: &str =
+    "{host=\"a\" service=\"cpu\" state=\"ok\" description=\"fine\" time=5 ttl=60 metric=-3 @\"rack\"=\"r7\" @\"room\"=\"\" @\"rack\"=\"r8\" @\"bare\"=\"r3\"}";
+
+const BARE_FILLED: &str =
+    "{host=\"b\" description=\"late\" time=5 @\"rack\"=\"r1\" @\"room\"=\"r2\" @\"bare\"=\"r3\"}";
+
+/// Whether the full and the bare event are so with the defaults.
+fn are_filled(alloc: Global, sets: &Sets) -> bool {
+    is_filled(alloc, sets, full_event(alloc), FULL_FILLED)
+        && is_filled(alloc, sets, bare_event(alloc), BARE_FILLED)
 }
 
 #[test]
-fn a_field_has_two_defaults(rt: HostRuntime) -> Result<(), Fail> {
-    let alloc = rt.alloc();
-    let full =
-        "{host=\"a\" service=\"cpu\" state=\"ok\" description=\"fine\" time=5 ttl=60 metric=-3 @\"rack\"=\"r7\" @\"room\"=\"\" @\"rack\"=\"r8\" @\"bare\"=\"r3\"}";
-    assert!(rt; is_filled(alloc, full_event(alloc), full)?);
-    let bare =
-        "{host=\"b\" description=\"late\" time=5 @\"rack\"=\"r1\" @\"room\"=\"r2\" @\"bare\"=\"r3\"}";
-    assert!(rt; is_filled(alloc, bare_event(alloc), bare)?);
-    Ok(())
+fn a_field_has_two_defaults(rt: HostRuntime) {
+    let mut sets = Sets::fresh(rt.alloc());
+    let is_pushed = push_sets(rt.alloc(), &mut sets, DEFAULTS).is_ok();
+    let are_filled = is_pushed && are_filled(rt.alloc(), &sets);
+    assert!(rt; are_filled);
 }
 
 /// Whether this is the branch of the event.
@@ -163,52 +215,55 @@ fn is_branch(alloc: Global, pred: &mut Pred, event: &Event, wanted: u32) -> bool
 }
 
 /// The branches of the full and of the bare event below the rule of a query.
-type Branches<'a> = (&'a str, u32, u32);
+type Branches = (&'static str, u32, u32);
+
+const BRANCHES: &[Branches] = &[
+    ("true", 0, 0),
+    ("false", 1, 1),
+    ("state = \"ok\"", 0, 1),
+    ("state = nil", 1, 0),
+    ("service ~= \"^c.u$\"", 0, 1),
+];
 
 /// Whether the events have the branches of the row.
-fn are_branches(alloc: Global, full: &Event, bare: &Event, row: &Branches) -> Result<bool, Memory> {
-    let mut pred = rule(alloc, row.0)?;
-    Ok(is_branch(alloc, &mut pred, full, row.1) && is_branch(alloc, &mut pred, bare, row.2))
+fn are_branches(alloc: Global, full: &Event, bare: &Event, row: &Branches) -> bool {
+    match rule(alloc, row.0) {
+        Ok(mut pred) => {
+            is_branch(alloc, &mut pred, full, row.1) && is_branch(alloc, &mut pred, bare, row.2)
+        }
+        Err(Memory) => false,
+    }
 }
 
 /// Whether the events have the branches of all rows.
-fn are_parted(
-    alloc: Global,
-    full: &Event,
-    bare: &Event,
-    rows: &[Branches],
-) -> Result<bool, Memory> {
-    for row in rows {
-        if !are_branches(alloc, full, bare, row)? {
-            return Ok(false);
+fn are_parted(alloc: Global, full: &Event, bare: &Event) -> bool {
+    for row in BRANCHES {
+        if !are_branches(alloc, full, bare, row) {
+            return false;
         }
     }
-    Ok(true)
+    true
 }
 
 #[test]
-fn a_rule_parts_events(rt: HostRuntime) -> Result<(), Fail> {
-    let rows = [
-        ("true", 0, 0),
-        ("false", 1, 1),
-        ("state = \"ok\"", 0, 1),
-        ("state = nil", 1, 0),
-        ("service ~= \"^c.u$\"", 0, 1),
-    ];
-    let (full, bare) = (full_event(rt.alloc()), bare_event(rt.alloc()));
-    assert!(rt; are_parted(rt.alloc(), &full, &bare, &rows)?);
-    Ok(())
+fn a_rule_parts_events(rt: HostRuntime) {
+    let full = full_event(rt.alloc());
+    let bare = bare_event(rt.alloc());
+    let parted = are_parted(rt.alloc(), &full, &bare);
+    assert!(rt; parted);
 }
 
-/// Whether a count of no event makes no event.
-fn is_nothing_folded(alloc: Global) -> bool {
-    matches!(
-        apply_fold(alloc, Fold::Count, &Events::fresh(alloc)),
-        Ok(None)
-    )
+/// Whether a count of the events makes no event.
+fn is_nothing_folded(alloc: Global, events: &Events) -> bool {
+    match apply_fold(alloc, Fold::Count, events) {
+        Ok(folded) => folded.is_none(),
+        Err(Memory) => false,
+    }
 }
 
 #[test]
 fn nothing_is_folded_of_no_event(rt: HostRuntime) {
-    assert!(rt; is_nothing_folded(rt.alloc()));
+    let none = Events::fresh(rt.alloc());
+    let is_nothing = is_nothing_folded(rt.alloc(), &none);
+    assert!(rt; is_nothing);
 }

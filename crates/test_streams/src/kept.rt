@@ -38,14 +38,22 @@ const ALL: &[Keeps] = &[
 
 /// The kind with this count and these seconds, as far as it has them. It compares states.
 fn kind_of(keeps: Keeps, count: u32, secs: u32) -> Kind {
-    let field = Field::State;
     match keeps {
-        Keeps::Changed => Kind::Changed { field, init: None },
-        Keeps::Runs => Kind::Runs { count, field },
+        Keeps::Changed => Kind::Changed {
+            field: Field::State,
+            init: None,
+        },
+        Keeps::Runs => Kind::Runs {
+            count,
+            field: Field::State,
+        },
         Keeps::Throttle => Kind::Throttle { count, secs },
         Keeps::Rollup => Kind::Rollup { count, secs },
         Keeps::Batch => Kind::Batch { count, secs },
-        Keeps::Stable => Kind::Stable { secs, field },
+        Keeps::Stable => Kind::Stable {
+            secs,
+            field: Field::State,
+        },
         Keeps::FixedEvent => Kind::FixedEvent { count },
         Keeps::MovingEvent => Kind::MovingEvent { count },
         Keeps::FixedTime => Kind::FixedTime { secs },
@@ -54,13 +62,30 @@ fn kind_of(keeps: Keeps, count: u32, secs: u32) -> Kind {
     }
 }
 
+/// The state of a stream of the kind at the moment 0, where its numbers are in their ranges.
+fn state_of(
+    alloc: Global,
+    keeps: Keeps,
+    count: u32,
+    secs: u32,
+) -> Result<Option<KeptState>, Memory> {
+    KeptState::fresh(alloc, &kind_of(keeps, count, secs), 0)
+}
+
+/// How many items pass as an event of the moment 0 comes.
+fn pass(alloc: Global, state: &mut KeptState) -> Result<usize, Memory> {
+    let mut out = Emissions::fresh(alloc);
+    match state.item(alloc, Event::at(alloc, 0), 0, &mut out) {
+        Ok(()) => Ok(out.len()),
+        Err(Memory) => Err(Memory),
+    }
+}
+
 /// How many items pass as this many events of the moment 0 come.
-fn pass(alloc: Global, state: &mut KeptState, events: u32) -> Result<usize, Memory> {
+fn pass_all(alloc: Global, state: &mut KeptState, events: u32) -> Result<usize, Memory> {
     let mut passed: usize = 0;
     for _ in 0..events {
-        let mut out = Emissions::fresh(alloc);
-        state.item(alloc, Event::at(alloc, 0), 0, &mut out)?;
-        passed = passed.wrapping_add(out.len());
+        passed = passed.wrapping_add(pass(alloc, state)?);
     }
     Ok(passed)
 }
@@ -74,10 +99,10 @@ fn passed(
     secs: u32,
     events: u32,
 ) -> Result<Option<usize>, Memory> {
-    let kind = kind_of(keeps, count, secs);
-    match KeptState::fresh(alloc, &kind, 0)? {
-        Some(mut state) => Ok(pass(alloc, &mut state, events).ok()),
-        None => Ok(None),
+    match state_of(alloc, keeps, count, secs) {
+        Ok(Some(mut state)) => Ok(pass_all(alloc, &mut state, events).ok()),
+        Ok(None) => Ok(None),
+        Err(Memory) => Err(Memory),
     }
 }
 
@@ -92,37 +117,44 @@ fn made(alloc: Global, count: u32, secs: u32) -> Result<u32, Memory> {
     Ok(made)
 }
 
+/// Counts and seconds, and how many kinds have a state with them. Six kinds have a count, seven have seconds, and three
+/// of these have both.
+const MADE: &[(u32, u32, u32)] = &[
+    (1, 1, 11),
+    (1_000_000, 604_800, 11),
+    (0, 1, 5),
+    (1_000_001, 1, 5),
+    (1, 0, 4),
+    (1, 604_801, 4),
+    (u32::MAX, u32::MAX, 1),
+];
+
 #[test]
 fn a_state_is_made_of_numbers_in_their_ranges(rt: HostRuntime) -> Result<(), Fail> {
-    // Six kinds have a count, seven have seconds, and three of these have both.
-    for (count, secs, wanted) in [
-        (1, 1, 11),
-        (1_000_000, 604_800, 11),
-        (0, 1, 5),
-        (1_000_001, 1, 5),
-        (1, 0, 4),
-        (1, 604_801, 4),
-        (u32::MAX, u32::MAX, 1),
-    ] {
-        assert!(rt; made(rt.alloc(), count, secs)? == wanted, "{count} {secs}");
+    for (count, secs, wanted) in MADE {
+        let made = made(rt.alloc(), *count, *secs)?;
+        assert!(rt; made == *wanted, "{count} {secs}");
     }
     Ok(())
 }
 
+/// Kinds, numbers of events, and how many items pass.
+const PASSED: &[(Keeps, u32, usize)] = &[
+    (Keeps::Throttle, 1_000_001, 1_000_000),
+    (Keeps::Rollup, 1_000_001, 1_000_000),
+    (Keeps::Runs, 999_999, 0),
+    (Keeps::Runs, 1_000_001, 2),
+    (Keeps::Batch, 999_999, 0),
+    (Keeps::Batch, 1_000_000, 1),
+    (Keeps::FixedEvent, 999_999, 0),
+    (Keeps::FixedEvent, 1_000_000, 1),
+];
+
 #[test]
 fn a_million_events_are_counted_and_kept(rt: HostRuntime) -> Result<(), Fail> {
-    for (keeps, events, wanted) in [
-        (Keeps::Throttle, 1_000_001, 1_000_000),
-        (Keeps::Rollup, 1_000_001, 1_000_000),
-        (Keeps::Runs, 999_999, 0),
-        (Keeps::Runs, 1_000_001, 2),
-        (Keeps::Batch, 999_999, 0),
-        (Keeps::Batch, 1_000_000, 1),
-        (Keeps::FixedEvent, 999_999, 0),
-        (Keeps::FixedEvent, 1_000_000, 1),
-    ] {
-        let passed = passed(rt.alloc(), keeps, 1_000_000, 1, events)?;
-        assert!(rt; passed == Some(wanted), "{events}");
+    for (keeps, events, wanted) in PASSED {
+        let passed = passed(rt.alloc(), *keeps, 1_000_000, 1, *events)?;
+        assert!(rt; passed == Some(*wanted), "{events}");
     }
     Ok(())
 }

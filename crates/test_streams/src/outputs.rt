@@ -3,7 +3,6 @@
 use crate::build::{event, plan};
 use ev_types::{Memory, Output, Outputs};
 use std::alloc::Global;
-use std::test::Fail;
 use step_count::{CountLedger, Steps};
 use stream_tree::Tree;
 
@@ -45,103 +44,119 @@ fn put_names(out: &mut String, outputs: &Outputs) -> Result<(), Memory> {
     Ok(())
 }
 
-/// Plays, and appends the names of what the tree gives.
-fn play_names(
-    alloc: Global,
-    tree: &mut Tree,
-    steps: &mut Steps<CountLedger>,
-    out: &mut String,
-) -> Result<(), Memory> {
-    let mut outputs = Outputs::fresh(alloc);
-    play(alloc, tree, &mut outputs, steps)?;
-    put_names(out, &outputs)
+/// Whether the outputs have these names.
+fn are_named(alloc: Global, outputs: &Outputs, names: &str) -> bool {
+    let mut out = String::new(alloc);
+    let is_put = put_names(&mut out, outputs).is_ok();
+    is_put && out.as_str() == names
 }
 
-/// Whether the configuration gives outputs of these names, and counts so many forks and entries.
-fn gives(
+/// Whether the tree gives outputs of these names.
+fn plays_names(
     alloc: Global,
-    config: &str,
+    tree: &mut Tree,
     names: &str,
-    forks: u64,
-    entries: u64,
-) -> Result<bool, Memory> {
-    let mut tree = Tree::fresh(alloc, plan(alloc, config)?, 100)?;
+    steps: &mut Steps<CountLedger>,
+) -> bool {
+    let mut outputs = Outputs::fresh(alloc);
+    let is_played = play(alloc, tree, &mut outputs, steps).is_ok();
+    is_played && are_named(alloc, &outputs, names)
+}
+
+/// A configuration, the names of its outputs, and how many forks and entries are counted.
+type Row = (&'static str, &'static str, u64, u64);
+
+/// Whether the tree gives outputs of the names of the row, and counts as many forks and entries.
+fn plays(alloc: Global, tree: &mut Tree, row: &Row) -> bool {
     let mut steps = Steps::fresh(CountLedger {
         forks: 0,
         entries: 0,
     });
-    let mut out = String::new(alloc);
-    let played = play_names(alloc, &mut tree, &mut steps, &mut out).is_ok();
+    let plays_names = plays_names(alloc, tree, row.1, &mut steps);
     let counts = *steps.ledger();
-    let counted = counts.forks == forks && counts.entries == entries;
-    Ok(played && counted && out.as_str() == names)
+    plays_names && counts.forks == row.2 && counts.entries == row.3
 }
 
-#[test]
-fn outputs_come_in_order(rt: HostRuntime) -> Result<(), Fail> {
-    for (config, names, forks, entries) in [
-        (
-            "(streams (where (= host \"a\") (notice \"in\") (else (notice \"out\"))))",
-            "in out out ",
-            0,
-            0,
-        ),
-        (
-            "(streams (with :state \"x\" (notice \"n\") index))",
-            "n write n write n write ",
-            0,
-            0,
-        ),
-        (
-            "(streams (with :state \"x\" (default :state \"y\" (notice \"n\"))) index)",
-            "n write n write n write ",
-            0,
-            0,
-        ),
-        (
-            "(streams (sdo (sdo (notice \"n\") (notice \"m\")) index))",
-            "n m write n m write n m write ",
-            0,
-            0,
-        ),
-        (
-            "(streams (tag \"t\" (tagged \"t\" (notice \"n\")) (tagged \"u\" (notice \"u\"))))",
-            "n n n ",
-            0,
-            0,
-        ),
-        (
-            "(streams (notice \"n\") (notice \"n\"))",
-            "n n n n n n ",
-            0,
-            0,
-        ),
-        // Each host has a throttle of its own, and each event enters a fork.
-        (
-            "(streams (by :host (throttle 1 10 (notice \"t\"))))",
-            "t t t ",
-            3,
-            0,
-        ),
-        // At the second both forks are due.
-        (
-            "(streams (by :host (stable 1 :state (notice \"s\"))))",
-            "s s ",
-            5,
-            2,
-        ),
-        // Three rules with a pattern each, one below the other and one beside them.
-        (
-            "(streams (where (host #\"^a\") (notice \"begin\") (else (where (host #\"b$\") (notice \"end\") (else (notice \"rest\"))))) (where (host #\"^b$\") (notice \"b\") (else (notice \"no\"))))",
-            "begin no end b end no ",
-            0,
-            0,
-        ),
-    ] {
-        assert!(rt;
-            gives(rt.alloc(), config, names, forks, entries)?,
-            "{config}"
-        );
+/// The tree of the configuration, at the moment 100.
+fn tree(alloc: Global, config: &str) -> Result<Tree, Memory> {
+    match plan(alloc, config) {
+        Ok(plan) => Tree::fresh(alloc, plan, 100),
+        Err(Memory) => Err(Memory),
     }
-    Ok(())
+}
+
+/// Whether the tree of the row's configuration plays the row.
+fn gives(alloc: Global, row: &Row) -> bool {
+    match tree(alloc, row.0) {
+        Ok(mut tree) => plays(alloc, &mut tree, row),
+        Err(Memory) => false,
+    }
+}
+
+const ROWS: &[Row] = &[
+    (
+        "(streams (where (= host \"a\") (notice \"in\") (else (notice \"out\"))))",
+        "in out out ",
+        0,
+        0,
+    ),
+    (
+        "(streams (with :state \"x\" (notice \"n\") index))",
+        "n write n write n write ",
+        0,
+        0,
+    ),
+    (
+        "(streams (with :state \"x\" (default :state \"y\" (notice \"n\"))) index)",
+        "n write n write n write ",
+        0,
+        0,
+    ),
+    (
+        "(streams (sdo (sdo (notice \"n\") (notice \"m\")) index))",
+        "n m write n m write n m write ",
+        0,
+        0,
+    ),
+    (
+        "(streams (tag \"t\" (tagged \"t\" (notice \"n\")) (tagged \"u\" (notice \"u\"))))",
+        "n n n ",
+        0,
+        0,
+    ),
+    (
+        "(streams (notice \"n\") (notice \"n\"))",
+        "n n n n n n ",
+        0,
+        0,
+    ),
+    // Each host has a throttle of its own, and each event enters a fork.
+    (
+        "(streams (by :host (throttle 1 10 (notice \"t\"))))",
+        "t t t ",
+        3,
+        0,
+    ),
+    // At the second both forks are due.
+    (
+        "(streams (by :host (stable 1 :state (notice \"s\"))))",
+        "s s ",
+        5,
+        2,
+    ),
+    // Three rules with a pattern each, one below the other and one beside them.
+    (
+        "(streams (where (host #\"^a\") (notice \"begin\") (else (where (host #\"b$\") (notice \"end\") (else (notice \"rest\"))))) (where (host #\"^b$\") (notice \"b\") (else (notice \"no\"))))",
+        "begin no end b end no ",
+        0,
+        0,
+    ),
+];
+
+#[test]
+fn outputs_come_in_order(rt: HostRuntime) {
+    for row in ROWS {
+        let gives = gives(rt.alloc(), row);
+        assert!(rt; gives, "{}", row.0);
+    }
 }

@@ -3,8 +3,8 @@
 ghost use Rattle.std.specs.Prelude.{◌≡◌, IfOk};
 ghost use Rattle.pred_eval.specs.Tree.{Always};
 
-use crate::build::{event, rule, text};
-use ev_types::{Events, Memory};
+use crate::build::{event, event_of, rule, text};
+use ev_types::{Events, Memory, Text};
 use live_index::LiveIndex;
 use pred_eval::{Pred, RegexPatterns, Rule};
 use std::alloc::Global;
@@ -33,13 +33,20 @@ fn ttl_of(host: u32, service: u32) -> u32 {
     }
 }
 
+/// The letter and the number as a text, or none where memory is out.
+fn numbered(alloc: Global, letter: char, number: u32) -> Option<Text> {
+    match format!(in alloc; "{letter}{number}") {
+        Ok(chars) => text(alloc, chars.as_str()),
+        Err(_) => None,
+    }
+}
+
 /// Writes an event of the host and service.
 fn write_one(alloc: Global, index: &mut LiveIndex, host: u32, service: u32) -> Result<(), Memory> {
-    let host_name = format!(in alloc; "h{host}")?;
-    let service_name = format!(in alloc; "s{service}")?;
     let ttl = ttl_of(host, service);
-    let event = event(alloc, host_name.as_str(), service_name.as_str(), ttl);
-    index.write(alloc, event)
+    let host = numbered(alloc, 'h', host);
+    let service = numbered(alloc, 's', service);
+    index.write(alloc, event_of(alloc, host, service, None, ttl))
 }
 
 /// Writes events of ten services of the host.
@@ -58,58 +65,86 @@ fn write_thousand(alloc: Global, index: &mut LiveIndex) -> Result<(), Memory> {
     Ok(())
 }
 
-/// Whether the query finds `found` events and visits `visited` entries.
-fn visits(
+/// What is asked of an index by a query.
+#[derive(Clone, Copy)]
+enum Asked {
+    /// How many events are copied by a search.
+    Copies,
+    /// How many bytes a reply has.
+    Length,
+}
+
+/// How many events a search copies, and how many entries it visits.
+fn copies(alloc: Global, index: &mut LiveIndex, pred: &mut Pred) -> Result<(usize, u64), Memory> {
+    let mut out = Events::fresh(alloc);
+    let mut steps = no_steps();
+    match index.search(alloc, pred, &mut out, &mut steps) {
+        Ok(()) => Ok((out.len(), entries(&steps))),
+        Err(Memory) => Err(Memory),
+    }
+}
+
+/// How many bytes a reply has, and how many entries are visited to know it.
+fn length(alloc: Global, index: &mut LiveIndex, pred: &mut Pred) -> Result<(usize, u64), Memory> {
+    let mut steps = no_steps();
+    let len = index.found_len(alloc, pred, &mut steps)?;
+    Ok((len, entries(&steps)))
+}
+
+/// What is asked by the query, and how many entries are visited to know it.
+fn answer(
     alloc: Global,
     index: &mut LiveIndex,
     query: &str,
-    found: usize,
-    visited: u64,
-) -> Result<bool, Memory> {
-    let mut pred = rule(alloc, query)?;
-    let mut out = Events::fresh(alloc);
-    let mut steps = no_steps();
-    let searched = index.search(alloc, &mut pred, &mut out, &mut steps).is_ok();
-    Ok(searched && out.len() == found && entries(&steps) == visited)
+    asked: Asked,
+) -> Result<(usize, u64), Memory> {
+    match rule(alloc, query) {
+        Ok(mut pred) => match asked {
+            Asked::Copies => copies(alloc, index, &mut pred),
+            Asked::Length => length(alloc, index, &mut pred),
+        },
+        Err(Memory) => Err(Memory),
+    }
 }
+
+/// Queries, how many events they find, and how many entries they visit.
+const SEARCHES: &[(&str, usize, u64)] = &[
+    ("host = \"h7\"", 10, 10),
+    (
+        "service = \"s1\" and host = \"h7\" and host = \"h8\"",
+        0,
+        10,
+    ),
+    ("host = nil", 0, 0),
+    ("host = 7", 0, 0),
+    ("not host = \"h7\"", 990, 1_000),
+    ("service = \"s1\"", 100, 1_000),
+];
 
 /// Whether a search visits one host where it asks for one.
 fn are_searched(alloc: Global, index: &mut LiveIndex) -> Result<bool, Memory> {
-    for (query, found, visited) in [
-        ("host = \"h7\"", 10, 10),
-        (
-            "service = \"s1\" and host = \"h7\" and host = \"h8\"",
-            0,
-            10,
-        ),
-        ("host = nil", 0, 0),
-        ("host = 7", 0, 0),
-        ("not host = \"h7\"", 990, 1_000),
-        ("service = \"s1\"", 100, 1_000),
-    ] {
-        if !visits(alloc, index, query, found, visited)? {
+    for (query, found, visited) in SEARCHES {
+        let (copied, counted) = answer(alloc, index, query, Asked::Copies)?;
+        if copied != *found || counted != *visited {
             return Ok(false);
         }
     }
     Ok(true)
 }
 
-/// How many bytes a reply has with what the query finds, and how many entries are visited to know it.
-fn measured(alloc: Global, index: &mut LiveIndex, query: &str) -> Result<(usize, u64), Memory> {
-    let mut pred = rule(alloc, query)?;
-    let mut steps = no_steps();
-    let len = index.found_len(alloc, &mut pred, &mut steps)?;
-    Ok((len, entries(&steps)))
+/// Writes an event of the host and of the service "s1" that is longer than the one in whose place it comes.
+fn write_longer(alloc: Global, index: &mut LiveIndex, host: &str) -> Result<(), Memory> {
+    let mut longer = event(alloc, host, "s1", 60);
+    longer.metric = Some(1);
+    index.write(alloc, longer)
 }
 
 /// Whether a reply with the ten events of a host is measured, and again after a longer one takes the place of one of
 /// them.
 fn are_measured(alloc: Global, index: &mut LiveIndex) -> Result<bool, Memory> {
-    let (before, visited) = measured(alloc, index, "host = \"h7\"")?;
-    let mut longer = event(alloc, "h7", "s1", 60);
-    longer.metric = Some(1);
-    index.write(alloc, longer)?;
-    let (after, again) = measured(alloc, index, "host = \"h7\"")?;
+    let (before, visited) = answer(alloc, index, "host = \"h7\"", Asked::Length)?;
+    write_longer(alloc, index, "h7")?;
+    let (after, again) = answer(alloc, index, "host = \"h7\"", Asked::Length)?;
     Ok(before == 172 && after == 174 && visited == 10 && again == 10)
 }
 
@@ -124,22 +159,33 @@ fn always(alloc: Global) -> Result<Pred, Memory>
 }
 
 /// How many bytes a reply has with all events, and how many entries are visited to know it.
-fn all_measured(alloc: Global, index: &mut LiveIndex) -> Result<(usize, u64), Memory> {
-    let mut pred = always(alloc)?;
+fn all_measured_by(
+    alloc: Global,
+    index: &mut LiveIndex,
+    pred: &mut Pred,
+) -> Result<(usize, u64), Memory>
+    requires { pred.old ≡ Always }
+{
     let mut steps = no_steps();
-    let len = index.all_len(alloc, &mut pred, &mut steps)?;
+    let len = index.all_len(alloc, pred, &mut steps)?;
     Ok((len, entries(&steps)))
+}
+
+/// The same, with the predicate that every event meets.
+fn all_measured(alloc: Global, index: &mut LiveIndex) -> Result<(usize, u64), Memory> {
+    match always(alloc) {
+        Ok(mut pred) => all_measured_by(alloc, index, &mut pred),
+        Err(Memory) => Err(Memory),
+    }
 }
 
 /// Whether a reply with all events is measured once, and again after a longer one takes the place of one of them.
 fn are_all_measured(alloc: Global, index: &mut LiveIndex) -> Result<bool, Memory> {
     let (before, visited) = all_measured(alloc, index)?;
     let (same, none) = all_measured(alloc, index)?;
-    let mut longer = event(alloc, "h8", "s1", 60);
-    longer.metric = Some(1);
-    index.write(alloc, longer)?;
+    write_longer(alloc, index, "h8")?;
     let (after, again) = all_measured(alloc, index)?;
-    let (found, _) = measured(alloc, index, "true")?;
+    let (found, _) = answer(alloc, index, "true", Asked::Length)?;
     Ok(
         same == before
             && before.checked_add(2) == Some(after)
@@ -169,20 +215,18 @@ fn is_reaped(alloc: Global, index: &mut LiveIndex) -> bool {
 }
 
 /// Whether the calls of an index with a thousand events visit no more than they have to.
-fn are_visited(alloc: Global, index: &mut LiveIndex) -> Result<bool, Memory> {
-    write_thousand(alloc, index)?;
-    Ok(
-        are_searched(alloc, index)?
-            && are_measured(alloc, index)?
-            && are_all_measured(alloc, index)?
-            && is_looked_up(alloc, index)
-            && is_reaped(alloc, index),
-    )
+fn are_visited(alloc: Global, index: &mut LiveIndex) -> bool {
+    write_thousand(alloc, index).is_ok()
+        && matches!(are_searched(alloc, index), Ok(true))
+        && matches!(are_measured(alloc, index), Ok(true))
+        && matches!(are_all_measured(alloc, index), Ok(true))
+        && is_looked_up(alloc, index)
+        && is_reaped(alloc, index)
 }
 
 #[test]
 fn an_index_visits_what_is_asked_for(rt: HostRuntime) {
     let mut index = LiveIndex::fresh(rt.alloc());
-    let visited = matches!(are_visited(rt.alloc(), &mut index), Ok(true));
+    let visited = are_visited(rt.alloc(), &mut index);
     assert!(rt; visited && index.len() == 997);
 }
