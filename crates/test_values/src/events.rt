@@ -1,8 +1,9 @@
 //! Events that a file of rows names.
 
+use crate::reading::readable;
 use ev_types::{Blob, Event, Text};
 use pb_wire::{PutBody, put_field};
-use riemann_msg::read_msg;
+use riemann_msg::{Msg, read_msg};
 use std::alloc::Global;
 use test_rows::{RowFault, read_spelled};
 
@@ -19,22 +20,33 @@ pub struct Named {
     pub event: Event,
 }
 
-/// A message of this one event.
-pub fn embedded(alloc: Global, event: &[u8]) -> Result<Blob, RowFault> {
-    let mut body = Blob::fresh(alloc);
-    put_field(alloc, &mut body, EVENTS, PutBody::Bytes(event))?;
-    Ok(body)
+/// Appends a message of this one event.
+pub fn embed(alloc: Global, event: &[u8], body: &mut Blob) -> Result<(), RowFault> {
+    put_field(alloc, body, EVENTS, PutBody::Bytes(event))?;
+    Ok(())
 }
 
 /// The event that the bytes spell, which are those of an event in a message.
 pub fn read_event(alloc: Global, name: &str, text: &str) -> Result<Named, RowFault> {
-    let bytes = read_spelled(alloc, text)?;
-    let body = embedded(alloc, bytes.as_slice())?;
-    let msg = read_msg(alloc, body.as_slice(), NOW).map_err(|_| RowFault::Unreadable)?;
-    let mut events = msg.events.into_vec();
-    let event = events.pop().ok_or(RowFault::Unreadable)?;
     let name = Text::from_str(alloc, name)?;
-    Ok(Named { name, event })
+    let msg = read_embedded(alloc, text)?;
+    let mut events = msg.events.into_vec();
+    match events.pop() {
+        Some(event) => Ok(Named { name, event }),
+        None => Err(RowFault::Unreadable),
+    }
+}
+
+/// The message of the event that the bytes spell.
+fn read_embedded(alloc: Global, text: &str) -> Result<Msg, RowFault> {
+    let event = read_spelled(alloc, text)?;
+    let mut body = Blob::fresh(alloc);
+    embed_and_read(alloc, event.as_slice(), &mut body)
+}
+
+fn embed_and_read(alloc: Global, event: &[u8], body: &mut Blob) -> Result<Msg, RowFault> {
+    embed(alloc, event, body)?;
+    readable(read_msg(alloc, body.as_slice(), NOW))
 }
 
 /// The event of this name.

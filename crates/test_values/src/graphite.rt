@@ -3,11 +3,12 @@
 ghost use Rattle.std.specs.Prelude.{◌≤◌, IfOk};
 ghost use Rattle.std.specs.Option.{ForSome};
 
-use crate::shown::event_line;
-use ev_types::{Blob, Memory};
+use crate::shown::put_event;
+use ev_types::{Blob, Event};
 use graphite_lines::{BadLine, BadLines, LineFault, graphite_frames, read_line};
 use std::alloc::Global;
-use test_rows::{RowFault, read_number, read_spelled, said, split_word};
+use std::fmt::Write;
+use test_rows::{RowFault, read_number, read_spelled, split_word};
 
 /// The host part that a word says, or none for 0.
 fn read_host_part(word: &str) -> Result<Option<u32>, RowFault>
@@ -20,37 +21,52 @@ fn read_host_part(word: &str) -> Result<Option<u32>, RowFault>
     }
 }
 
-/// The event of a line in one line, or why there is none. Before the line is a word that says the host part.
-pub fn line_answer(alloc: Global, asked: &str) -> Result<Blob, RowFault> {
+/// Appends the event of a line in one line, or why there is none. Before the line is a word that says the host part.
+pub fn line_answer(alloc: Global, asked: &str, shown: &mut String) -> Result<(), RowFault> {
     let (part, line) = split_word(asked)?;
     let part = read_host_part(part)?;
     let line = read_spelled(alloc, line)?;
-    match read_line(alloc, line.as_slice(), part) {
-        Ok(Some(event)) => Ok(said(event_line(alloc, &event)?)),
-        Ok(None) => Ok(said(String::from_str(alloc, "skipped")?)),
-        Err(LineFault::Memory) => Err(RowFault::Memory),
-        Err(fault) => Ok(said(format!(in alloc; "{fault}")?)),
-    }
+    let read = read_line(alloc, line.as_slice(), part);
+    put_read(shown, &read)
 }
 
-/// Appends the number of a refused line, and its cause.
-fn put_bad(alloc: Global, bad: BadLine, out: &mut Blob) -> Result<(), Memory> {
-    let (line, why) = (bad.line, bad.why);
-    let shown = format!(in alloc; " {line} {why}")?;
+fn put_read(shown: &mut String, read: &Result<Option<Event>, LineFault>) -> Result<(), RowFault> {
+    match read {
+        Ok(Some(event)) => put_event(shown, event)?,
+        Ok(None) => shown.push_str("skipped")?,
+        Err(LineFault::Memory) => return Err(RowFault::Memory),
+        Err(fault) => write!(shown, "{fault}")?,
+    }
+    Ok(())
+}
+
+/// Appends the frames of a text, and then its refused lines. Before the text is a word that says the host part.
+pub fn text_answer(alloc: Global, asked: &str, out: &mut Blob) -> Result<(), RowFault> {
+    let (part, text) = split_word(asked)?;
+    let part = read_host_part(part)?;
+    let text = read_spelled(alloc, text)?;
+    put_frames(alloc, text.as_slice(), part, out)
+}
+
+fn put_frames(alloc: Global, text: &[u8], part: Option<u32>, out: &mut Blob) -> Result<(), RowFault>
+    requires { ForSome part (λ number. (1 ≤ number) × (number ≤ 64)) }
+{
+    let mut bad = BadLines::fresh(alloc);
+    graphite_frames(alloc, text, part, out, &mut bad)?;
+    put_bad(alloc, bad.as_slice(), out)
+}
+
+/// Appends the number of each refused line, and its cause.
+fn put_bad(alloc: Global, bad: &[BadLine], out: &mut Blob) -> Result<(), RowFault> {
+    let mut shown = String::new(alloc);
+    put_lines(bad, &mut shown)?;
     out.append(alloc, shown.as_bytes())?;
     Ok(())
 }
 
-/// The frames of a text, and then its refused lines. Before the text is a word that says the host part.
-pub fn text_answer(alloc: Global, asked: &str) -> Result<Blob, RowFault> {
-    let (part, text) = split_word(asked)?;
-    let part = read_host_part(part)?;
-    let text = read_spelled(alloc, text)?;
-    let mut out = Blob::fresh(alloc);
-    let mut bad = BadLines::fresh(alloc);
-    graphite_frames(alloc, text.as_slice(), part, &mut out, &mut bad)?;
-    for line in bad.as_slice() {
-        put_bad(alloc, *line, &mut out)?;
+fn put_lines(bad: &[BadLine], shown: &mut String) -> Result<(), RowFault> {
+    for line in bad {
+        write!(shown, " {} {}", line.line, line.why)?;
     }
-    Ok(out)
+    Ok(())
 }

@@ -9,6 +9,7 @@ mod graphite;
 mod kinds;
 mod messages;
 mod queries;
+mod reading;
 mod rising;
 mod sheet;
 mod shown;
@@ -17,6 +18,7 @@ mod values;
 use crate::sheet::read_sheet;
 use std::rt::{Env, Files};
 use std::{env, fs, io};
+use test_rows::Tally;
 
 fn main(rt: HostRuntime) -> io::Result<()> {
     for name in env::args(&rt)?.skip(1) {
@@ -28,8 +30,9 @@ fn main(rt: HostRuntime) -> io::Result<()> {
 /// Prints what is found of the rows of the file.
 fn print_file<R: Files + Print + AllocGlobal>(rt: &R, name: &str) -> io::Result<()> {
     let text = fs::read_to_string(rt, name)?;
-    match read_sheet(rt.alloc(), text.as_str()) {
-        Ok(tally) => tally.print(rt, name),
+    let mut tally = Tally::fresh(rt.alloc());
+    match read_sheet(rt.alloc(), text.as_str(), &mut tally) {
+        Ok(()) => tally.print(rt, name),
         Err(_) => println!(rt; "{name}: out of memory"),
     }
 }

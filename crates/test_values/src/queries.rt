@@ -1,36 +1,42 @@
 //! Rows of queries, and of the rules that they state.
 
 use crate::events::Named;
-use crate::kinds::two_texts;
-use ev_types::{Blob, Memory, Texts};
+use crate::reading::{readable, two_texts};
+use crate::shown::{put_blank, put_printed, put_shown};
+use ev_types::{Blob, Text, Texts};
 use pred_eval::{
     BuildFault, ListPatterns, Patterns, Pred, RegexPatterns, Rule, is_wild, pattern_count,
 };
-use query_lang::{read_query, write_query};
+use query_lang::{QueryFault, read_query, write_query};
 use std::alloc::Global;
 use std::fmt::Write;
-use test_rows::{RowFault, read_spelled, said};
+use test_rows::{RowFault, read_spelled};
 
-/// What is written of the rule that the text states, or why it states none.
-pub fn query_answer(alloc: Global, text: &[u8]) -> Result<Blob, RowFault> {
-    match read_query(alloc, text) {
-        Ok(rule) => {
-            let mut out = Blob::fresh(alloc);
-            write_query(alloc, &rule, &mut out)?;
-            Ok(out)
-        }
-        Err(fault) => Ok(said(format!(in alloc; "{fault}")?)),
+/// Appends what is written of the rule that the text states, or why it states none.
+pub fn query_answer(alloc: Global, text: &[u8], out: &mut Blob) -> Result<(), RowFault> {
+    let read = read_query(alloc, text);
+    put_query(alloc, &read, out)
+}
+
+fn put_query(
+    alloc: Global,
+    read: &Result<Rule, QueryFault>,
+    out: &mut Blob,
+) -> Result<(), RowFault> {
+    match read {
+        Ok(rule) => Ok(write_query(alloc, rule, out)?),
+        Err(fault) => put_printed(alloc, out, fault),
     }
 }
 
 fn rule_of(alloc: Global, text: &[u8]) -> Result<Rule, RowFault> {
-    read_query(alloc, text).map_err(|_| RowFault::Unreadable)
+    readable(read_query(alloc, text))
 }
 
-/// How many patterns the rule has.
-pub fn pattern_count_answer(alloc: Global, text: &[u8]) -> Result<Blob, RowFault> {
-    let count = pattern_count(&rule_of(alloc, text)?);
-    Ok(said(format!(in alloc; "{count}")?))
+/// Appends how many patterns the rule has.
+pub fn pattern_count_answer(alloc: Global, text: &[u8], line: &mut String) -> Result<(), RowFault> {
+    let rule = rule_of(alloc, text)?;
+    put_shown(line, pattern_count(&rule))
 }
 
 const MOST_PATTERNS: usize = 100;
@@ -42,71 +48,118 @@ fn build<P: Patterns>(alloc: Global, rule: Rule, patterns: &mut P) -> Result<Pre
     Pred::build(alloc, rule, patterns)
 }
 
-/// The names of the events of which the rule holds, or `none`.
-pub fn holds_answer(alloc: Global, text: &[u8], named: &[Named]) -> Result<Blob, RowFault> {
+/// Appends the names of the events of which the rule holds, or `none`. The line is empty before.
+pub fn holds_answer(
+    alloc: Global,
+    text: &[u8],
+    named: &[Named],
+    line: &mut String,
+) -> Result<(), RowFault> {
+    let mut pred = read_pred(alloc, text)?;
+    put_names(alloc, &mut pred, named, line)
+}
+
+/// The rule that the text states, built.
+fn read_pred(alloc: Global, text: &[u8]) -> Result<Pred, RowFault> {
     let rule = rule_of(alloc, text)?;
     let mut patterns = RegexPatterns { refusals: 0 };
-    let mut pred = build(alloc, rule, &mut patterns).map_err(|_| RowFault::Unreadable)?;
-    let mut names = String::new(alloc);
+    readable(build(alloc, rule, &mut patterns))
+}
+
+fn put_names(
+    alloc: Global,
+    pred: &mut Pred,
+    named: &[Named],
+    line: &mut String,
+) -> Result<(), RowFault> {
     for one in named {
         if pred.holds(alloc, &one.event)? {
-            write!(names, "{} ", one.name.as_str())?;
+            put_name(line, one.name.as_str())?;
         }
     }
-    if names.is_empty() {
-        names.push_str("none ")?;
+    if line.is_empty() {
+        line.push_str("none")?;
     }
-    let _ = names.pop();
-    Ok(said(names))
+    Ok(())
 }
 
-/// What building the rule ends with, where the number of refusals is already the greatest.
-fn built_plainly(alloc: Global, rule: Rule) -> Result<String, RowFault> {
+/// Appends the name, and a blank before it, except at the begin of the line.
+fn put_name(line: &mut String, name: &str) -> Result<(), RowFault> {
+    put_blank(line)?;
+    line.push_str(name)?;
+    Ok(())
+}
+
+/// Appends that a rule is built, or why it is not.
+fn put_built(line: &mut String, built: &Result<Pred, BuildFault>) -> Result<(), RowFault> {
+    match built {
+        Ok(_) => line.push_str("built")?,
+        Err(fault) => write!(line, "{fault}")?,
+    }
+    Ok(())
+}
+
+/// Appends what building the rule ends with, where the number of refusals is already the greatest.
+fn build_plainly(alloc: Global, rule: Rule, line: &mut String) -> Result<(), RowFault> {
     let mut patterns = RegexPatterns { refusals: u64::MAX };
-    let ended = match build(alloc, rule, &mut patterns) {
-        Ok(_) => String::from_str(alloc, "built")?,
-        Err(fault) => format!(in alloc; "{fault}")?,
-    };
-    if patterns.refusals == u64::MAX {
-        return Ok(ended);
-    }
-    Ok(format!(in alloc; "{ended}, and counted {}", patterns.refusals)?)
+    let built = build(alloc, rule, &mut patterns);
+    put_plain(line, &built, patterns.refusals)
 }
 
-/// The text of the fault, the number of refusals, and the texts that were refused.
-fn refused_pattern(
-    alloc: Global,
-    fault: BuildFault,
-    patterns: &ListPatterns,
-) -> Result<String, Memory> {
-    let refusals = patterns.refusals;
-    let mut printed = format!(in alloc; "{fault}, {refusals} of")?;
-    for text in patterns.refused.as_slice() {
-        printed.push_str(" ")?;
-        printed.push_str(text.as_str())?;
+fn put_plain(
+    line: &mut String,
+    built: &Result<Pred, BuildFault>,
+    refusals: u64,
+) -> Result<(), RowFault> {
+    put_built(line, built)?;
+    if refusals != u64::MAX {
+        write!(line, ", and counted {refusals}")?;
     }
-    Ok(printed)
+    Ok(())
 }
 
-/// What building the rule ends with in each of two ways. The second lists the texts that are refused.
-pub fn build_answer(alloc: Global, text: &[u8]) -> Result<Blob, RowFault> {
-    let plain = built_plainly(alloc, rule_of(alloc, text)?)?;
-    let mut recorded = ListPatterns {
+/// Appends what building the rule ends with, and if it is refused, the number of refusals and the texts that were
+/// refused.
+fn build_listing(alloc: Global, rule: Rule, line: &mut String) -> Result<(), RowFault> {
+    let mut patterns = ListPatterns {
         refusals: 0,
         refused: Texts::fresh(alloc),
     };
-    let ended = match build(alloc, rule_of(alloc, text)?, &mut recorded) {
-        Ok(_) => String::from_str(alloc, "built")?,
-        Err(fault) => refused_pattern(alloc, fault, &recorded)?,
-    };
-    Ok(said(format!(in alloc; "{plain} / {ended}")?))
+    let built = build(alloc, rule, &mut patterns);
+    put_listed(line, &built, &patterns)
 }
 
-/// Whether the first of two texts, a pattern with percent signs, matches the second.
-pub fn like_answer(alloc: Global, asked: &str) -> Result<Blob, RowFault> {
+fn put_listed(
+    line: &mut String,
+    built: &Result<Pred, BuildFault>,
+    patterns: &ListPatterns,
+) -> Result<(), RowFault> {
+    put_built(line, built)?;
+    match built {
+        Ok(_) => Ok(()),
+        Err(_) => put_refused(line, patterns.refusals, patterns.refused.as_slice()),
+    }
+}
+
+fn put_refused(line: &mut String, refusals: u64, refused: &[Text]) -> Result<(), RowFault> {
+    write!(line, ", {refusals} of")?;
+    for text in refused {
+        write!(line, " {}", text.as_str())?;
+    }
+    Ok(())
+}
+
+/// Appends what building the rule ends with in each of two ways. The second lists the texts that are refused.
+pub fn build_answer(alloc: Global, text: &[u8], line: &mut String) -> Result<(), RowFault> {
+    build_plainly(alloc, rule_of(alloc, text)?, line)?;
+    line.push_str(" / ")?;
+    build_listing(alloc, rule_of(alloc, text)?, line)
+}
+
+/// Appends whether the first of two texts, a pattern with percent signs, matches the second.
+pub fn like_answer(alloc: Global, asked: &str, line: &mut String) -> Result<(), RowFault> {
     let (pattern, text) = two_texts(asked)?;
     let pattern = read_spelled(alloc, pattern)?;
     let text = read_spelled(alloc, text)?;
-    let matches = is_wild(pattern.as_slice(), text.as_slice());
-    Ok(said(format!(in alloc; "{matches}")?))
+    put_shown(line, is_wild(pattern.as_slice(), text.as_slice()))
 }

@@ -24,6 +24,10 @@ impl Rising {
 
     pub fn push_value(&mut self, alloc: Global, text: &str) -> Result<(), RowFault> {
         let value = read_value(alloc, text)?;
+        self.push_copy(alloc, &value)
+    }
+
+    fn push_copy(&mut self, alloc: Global, value: &Value) -> Result<(), RowFault> {
         self.values.push(value.copy(alloc)?)?;
         Ok(())
     }
@@ -56,23 +60,34 @@ fn judge_item<T: Ord>(
     tally: &mut Tally,
 ) -> Result<(), Memory> {
     for (other_place, other) in items.iter().enumerate() {
-        let places = (place, other_place);
-        judge_order(alloc, places, item.cmp(other), item == other, tally)?;
+        let wanted = order_name(place.cmp(&other_place), place == other_place);
+        let came = order_name(item.cmp(other), item == other);
+        judge_order(alloc, (place, other_place), wanted, came, tally)?;
     }
     Ok(())
+}
+
+/// The order of two, and whether they are the same.
+fn order_name(order: Ordering, same: bool) -> &'static str {
+    match (order, same) {
+        (Ordering::Less, false) => "Less false",
+        (Ordering::Less, true) => "Less true",
+        (Ordering::Equal, false) => "Equal false",
+        (Ordering::Equal, true) => "Equal true",
+        (Ordering::Greater, false) => "Greater false",
+        (Ordering::Greater, true) => "Greater true",
+    }
 }
 
 /// Compares the order of two with that of their places.
 fn judge_order(
     alloc: Global,
     places: (usize, usize),
-    order: Ordering,
-    same: bool,
+    wanted: &str,
+    came: &str,
     tally: &mut Tally,
 ) -> Result<(), Memory> {
     let (i, k) = places;
     let asked = format!(in alloc; "{i} {k}")?;
-    let wanted = format!(in alloc; "{:?} {}", i.cmp(&k), i == k)?;
-    let came = format!(in alloc; "{order:?} {same}")?;
     tally.judge("rising", asked.as_str(), wanted.as_bytes(), came.as_bytes())
 }

@@ -1,7 +1,9 @@
 //! Events as one line of text each, so that a row wants one text.
 
-use ev_types::{Attr, Event, Memory, Text};
+use ev_types::{Attr, Blob, Event, Text};
 use std::alloc::Global;
+use std::fmt::{Display, Write};
+use test_rows::RowFault;
 
 pub fn shown(text: &Option<Text>) -> &str {
     match text {
@@ -10,53 +12,89 @@ pub fn shown(text: &Option<Text>) -> &str {
     }
 }
 
-/// Appends host, service, state, description; time in seconds and in microseconds; ttl; the metric in its three forms;
-/// then each tag, and each attribute.
-pub fn put_event(alloc: Global, line: &mut String, event: &Event) -> Result<(), Memory> {
-    put_texts(line, event)?;
-    put_numbers(alloc, line, event)?;
-    for tag in event.tags.as_slice() {
-        line.push_str(" #")?;
-        line.push_str(tag.as_str())?;
-    }
-    for attribute in event.attributes.as_slice() {
-        put_attribute(line, attribute)?;
-    }
+/// Appends what is printed of the value.
+pub fn put_shown<T: Display + Copy>(line: &mut String, value: T) -> Result<(), RowFault> {
+    write!(line, "{value}")?;
     Ok(())
 }
 
-fn put_texts(line: &mut String, event: &Event) -> Result<(), Memory> {
-    for text in [
-        &event.host,
-        &event.service,
-        &event.state,
-        &event.description,
-    ] {
-        line.push_str(shown(text))?;
+/// Appends the bytes of what is printed of the value.
+pub fn put_printed<T: Display + Copy>(
+    alloc: Global,
+    out: &mut Blob,
+    value: T,
+) -> Result<(), RowFault> {
+    let printed = format!(in alloc; "{value}")?;
+    out.append(alloc, printed.as_bytes())?;
+    Ok(())
+}
+
+/// Appends a blank, except at the begin of the line.
+pub fn put_blank(line: &mut String) -> Result<(), RowFault> {
+    if !line.is_empty() {
         line.push_str(" ")?;
     }
     Ok(())
 }
 
-fn put_numbers(alloc: Global, line: &mut String, event: &Event) -> Result<(), Memory> {
+/// Appends that another length is counted, where there are not as many bytes as were counted.
+pub fn put_miscount(alloc: Global, out: &mut Blob, counted: usize) -> Result<(), RowFault> {
+    if out.len() == counted {
+        return Ok(());
+    }
+    put_printed(alloc, out, ", and another length is counted")
+}
+
+/// Appends host, service, state, description; time in seconds and in microseconds; ttl; the metric in its three forms;
+/// then each tag, and each attribute.
+pub fn put_event(line: &mut String, event: &Event) -> Result<(), RowFault> {
+    put_texts(line, event)?;
+    put_numbers(line, event)?;
+    put_tags(line, event.tags.as_slice())?;
+    put_attributes(line, event.attributes.as_slice())
+}
+
+/// Appends each event after a bar.
+pub fn put_events(line: &mut String, events: &[Event]) -> Result<(), RowFault> {
+    for event in events {
+        line.push_str(" | ")?;
+        put_event(line, event)?;
+    }
+    Ok(())
+}
+
+fn put_texts(line: &mut String, event: &Event) -> Result<(), RowFault> {
+    let (host, service) = (shown(&event.host), shown(&event.service));
+    let (state, description) = (shown(&event.state), shown(&event.description));
+    write!(line, "{host} {service} {state} {description} ")?;
+    Ok(())
+}
+
+fn put_numbers(line: &mut String, event: &Event) -> Result<(), RowFault> {
     let (time, micros, ttl) = (event.time, event.time_micros, event.ttl);
     let (metric, raw_d, raw_f) = (event.metric, event.raw_d, event.raw_f);
-    let numbers = format!(in alloc; "{time} {micros:?} {ttl:?} {metric:?} {raw_d:?} {raw_f:?}")?;
-    line.push_str(numbers.as_str())?;
+    write!(
+        line,
+        "{time} {micros:?} {ttl:?} {metric:?} {raw_d:?} {raw_f:?}"
+    )?;
     Ok(())
 }
 
-fn put_attribute(line: &mut String, attribute: &Attr) -> Result<(), Memory> {
-    line.push_str(" ")?;
-    line.push_str(attribute.key.as_str())?;
-    line.push_str("=")?;
-    line.push_str(shown(&attribute.value))?;
+fn put_tags(line: &mut String, tags: &[Text]) -> Result<(), RowFault> {
+    for tag in tags {
+        write!(line, " #{}", tag.as_str())?;
+    }
     Ok(())
 }
 
-/// The event in one line.
-pub fn event_line(alloc: Global, event: &Event) -> Result<String, Memory> {
-    let mut line = String::new(alloc);
-    put_event(alloc, &mut line, event)?;
-    Ok(line)
+fn put_attributes(line: &mut String, attributes: &[Attr]) -> Result<(), RowFault> {
+    for attribute in attributes {
+        put_attribute(line, attribute.key.as_str(), shown(&attribute.value))?;
+    }
+    Ok(())
+}
+
+fn put_attribute(line: &mut String, key: &str, value: &str) -> Result<(), RowFault> {
+    write!(line, " {key}={value}")?;
+    Ok(())
 }
