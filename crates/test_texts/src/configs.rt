@@ -1,8 +1,9 @@
 //! Rows of configurations.
 
-use ev_types::{Blob, Memory, Texts};
+use crate::answers::{accepted, refused};
+use ev_types::{Blob, Memory, Text, Texts};
 use pred_eval::{BuildFault, ListPatterns};
-use sexp_config::{ConfigFault, read_config, write_config};
+use sexp_config::{Config, ConfigFault, read_config, write_config};
 use std::alloc::Global;
 use stream_plan::build_plan;
 use test_rows::{RowFault, said};
@@ -10,35 +11,31 @@ use test_rows::{RowFault, said};
 /// `ok` for a configuration, or why the text is not one.
 pub fn config_answer(alloc: Global, text: &[u8]) -> Result<Blob, RowFault> {
     match read_config(alloc, text) {
-        Ok(_) => Ok(said(String::from_str(alloc, "ok")?)),
+        Ok(_) => accepted(alloc),
         Err(fault) => refusal(alloc, fault),
     }
 }
 
-/// The text of the fault, which ends with the name of its cause.
 fn refusal(alloc: Global, fault: ConfigFault) -> Result<Blob, RowFault> {
     let printed = format!(in alloc; "{fault}")?;
-    let name = match fault {
-        ConfigFault::Refused { why, .. } => why.name(),
-        ConfigFault::Memory => "",
-    };
-    if printed.as_str().ends_with(name) {
-        Ok(said(printed))
-    } else {
-        Ok(said(format!(in alloc; "{printed}, named {name}")?))
+    match fault {
+        ConfigFault::Refused { why, .. } => refused(printed, why.name()),
+        ConfigFault::Memory => Ok(said(printed)),
     }
 }
 
 /// The canonical text of the configuration that the text is.
 fn written(alloc: Global, text: &[u8]) -> Result<Blob, RowFault> {
     match read_config(alloc, text) {
-        Ok(config) => {
-            let mut out = Blob::fresh(alloc);
-            write_config(alloc, &config, &mut out)?;
-            Ok(out)
-        }
+        Ok(config) => canonical(alloc, &config),
         Err(fault) => refusal(alloc, fault),
     }
+}
+
+fn canonical(alloc: Global, config: &Config) -> Result<Blob, RowFault> {
+    let mut out = Blob::fresh(alloc);
+    write_config(alloc, config, &mut out)?;
+    Ok(out)
 }
 
 /// The same, and the canonical text of that where it is the one wanted.
@@ -58,11 +55,8 @@ pub fn patterns_answer(alloc: Global, text: &[u8]) -> Result<Blob, RowFault> {
     };
     let mut patterns = no_refusals(alloc);
     match build_plan(alloc, config.plan, &mut patterns) {
-        Ok(ready) => {
-            let count = ready.patterns().len();
-            Ok(said(format!(in alloc; "{count} built")?))
-        }
-        Err(fault) => Ok(said(refused_pattern(alloc, fault, &patterns)?)),
+        Ok(ready) => built_count(alloc, ready.patterns().len()),
+        Err(fault) => refused_pattern(alloc, &fault, &patterns),
     }
 }
 
@@ -73,17 +67,27 @@ fn no_refusals(alloc: Global) -> ListPatterns {
     }
 }
 
+fn built_count(alloc: Global, count: usize) -> Result<Blob, RowFault> {
+    Ok(said(format!(in alloc; "{count} built")?))
+}
+
 /// The text of the fault, the number of refusals, and the texts that were refused.
 fn refused_pattern(
     alloc: Global,
-    fault: BuildFault,
+    fault: &BuildFault,
     patterns: &ListPatterns,
-) -> Result<String, Memory> {
+) -> Result<Blob, RowFault> {
     let refusals = patterns.refusals;
     let mut printed = format!(in alloc; "{fault}, {refusals} of")?;
-    for text in patterns.refused.as_slice() {
-        printed.push_str(" ")?;
-        printed.push_str(text.as_str())?;
+    put_texts(&mut printed, patterns.refused.as_slice())?;
+    Ok(said(printed))
+}
+
+/// Appends the texts, each after a blank.
+fn put_texts(out: &mut String, texts: &[Text]) -> Result<(), Memory> {
+    for text in texts {
+        out.push_str(" ")?;
+        out.push_str(text.as_str())?;
     }
-    Ok(printed)
+    Ok(())
 }

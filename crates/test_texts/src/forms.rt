@@ -1,5 +1,6 @@
 //! Rows of s-expressions.
 
+use crate::answers::refused;
 use ev_types::{Blob, Memory};
 use sexp_read::{Form, SexpFault, Shape, read_forms, write_forms};
 use std::alloc::Global;
@@ -7,7 +8,6 @@ use std::fmt::Write;
 use test_rows::{RowFault, said};
 
 /// Writes the forms in one way, each with its places and a blank after it.
-#[cycle(show)]
 fn show_all(out: &mut String, forms: &[Form]) -> Result<(), Memory> {
     for form in forms {
         show(out, form)?;
@@ -17,78 +17,99 @@ fn show_all(out: &mut String, forms: &[Form]) -> Result<(), Memory> {
 
 #[cycle(show)]
 fn show(out: &mut String, form: &Form) -> Result<(), Memory> {
-    write!(out, "{}-{} ", form.start, form.end)?;
+    put_places(out, form.start, form.end)?;
     match &form.shape {
-        Shape::List(forms) => {
-            write!(out, "list< ")?;
-            show_all(out, forms)?;
-            write!(out, "> ")?;
-        }
-        Shape::Vector(forms) => {
-            write!(out, "vector< ")?;
-            show_all(out, forms)?;
-            write!(out, "> ")?;
-        }
-        Shape::Map(forms) => {
-            write!(out, "map< ")?;
-            show_all(out, forms)?;
-            write!(out, "> ")?;
-        }
-        Shape::Text(text) => write!(out, "text {} ", text.as_str())?,
-        Shape::Pattern(text) => write!(out, "pattern {} ", text.as_str())?,
-        Shape::Number(number) => write!(out, "{number} ")?,
-        Shape::Keyword(name) => write!(out, "keyword {} ", name.as_str())?,
-        Shape::Symbol(name) => write!(out, "symbol {} ", name.as_str())?,
+        Shape::List(forms) => show_group(out, "list", forms.as_slice()),
+        Shape::Vector(forms) => show_group(out, "vector", forms.as_slice()),
+        Shape::Map(forms) => show_group(out, "map", forms.as_slice()),
+        Shape::Text(text) => put_word(out, "text", text.as_str()),
+        Shape::Pattern(text) => put_word(out, "pattern", text.as_str()),
+        Shape::Number(number) => put_number(out, *number),
+        Shape::Keyword(name) => put_word(out, "keyword", name.as_str()),
+        Shape::Symbol(name) => put_word(out, "symbol", name.as_str()),
     }
+}
+
+/// Writes the forms between the brackets of this kind.
+#[cycle(show)]
+fn show_group(out: &mut String, kind: &str, forms: &[Form]) -> Result<(), Memory> {
+    put_start(out, kind)?;
+    for form in forms {
+        show(out, form)?;
+    }
+    put_end(out)
+}
+
+fn put_places(out: &mut String, start: usize, end: usize) -> Result<(), Memory> {
+    write!(out, "{start}-{end} ")?;
     Ok(())
 }
 
-/// The text of the fault, which ends with the name of its cause.
+fn put_word(out: &mut String, kind: &str, text: &str) -> Result<(), Memory> {
+    write!(out, "{kind} {text} ")?;
+    Ok(())
+}
+
+fn put_number(out: &mut String, number: i64) -> Result<(), Memory> {
+    write!(out, "{number} ")?;
+    Ok(())
+}
+
+fn put_start(out: &mut String, kind: &str) -> Result<(), Memory> {
+    write!(out, "{kind}< ")?;
+    Ok(())
+}
+
+fn put_end(out: &mut String) -> Result<(), Memory> {
+    out.push_str("> ")?;
+    Ok(())
+}
+
 fn refusal(alloc: Global, fault: SexpFault) -> Result<Blob, RowFault> {
     let printed = format!(in alloc; "{fault}")?;
-    let name = match fault {
-        SexpFault::Refused { why, .. } => why.name(),
-        SexpFault::Memory => "",
-    };
-    if printed.as_str().ends_with(name) {
-        Ok(said(printed))
-    } else {
-        Ok(said(format!(in alloc; "{printed}, named {name}")?))
+    match fault {
+        SexpFault::Refused { why, .. } => refused(printed, why.name()),
+        SexpFault::Memory => Ok(said(printed)),
     }
 }
 
 /// The forms of the text with their places, or why it has none.
 pub fn forms_answer(alloc: Global, text: &[u8]) -> Result<Blob, RowFault> {
     match read_forms(alloc, text) {
-        Ok(forms) => {
-            let mut out = String::new(alloc);
-            show_all(&mut out, forms.as_slice())?;
-            let _ = out.pop();
-            Ok(said(out))
-        }
+        Ok(forms) => shown(alloc, forms.as_slice()),
         Err(fault) => refusal(alloc, fault),
     }
+}
+
+fn shown(alloc: Global, forms: &[Form]) -> Result<Blob, RowFault> {
+    let mut out = String::new(alloc);
+    show_all(&mut out, forms)?;
+    let _ = out.pop();
+    Ok(said(out))
 }
 
 /// How many forms the text has.
 pub fn count_answer(alloc: Global, text: &[u8]) -> Result<Blob, RowFault> {
     match read_forms(alloc, text) {
-        Ok(forms) => {
-            let count = forms.len();
-            Ok(said(format!(in alloc; "{count}")?))
-        }
+        Ok(forms) => count_of(alloc, forms.len()),
         Err(fault) => refusal(alloc, fault),
     }
+}
+
+fn count_of(alloc: Global, count: usize) -> Result<Blob, RowFault> {
+    Ok(said(format!(in alloc; "{count}")?))
 }
 
 /// What is written of the forms of the text.
 pub fn lines_answer(alloc: Global, text: &[u8]) -> Result<Blob, RowFault> {
     match read_forms(alloc, text) {
-        Ok(forms) => {
-            let mut out = Blob::fresh(alloc);
-            write_forms(alloc, forms.as_slice(), &mut out)?;
-            Ok(out)
-        }
+        Ok(forms) => lines_of(alloc, forms.as_slice()),
         Err(fault) => refusal(alloc, fault),
     }
+}
+
+fn lines_of(alloc: Global, forms: &[Form]) -> Result<Blob, RowFault> {
+    let mut out = Blob::fresh(alloc);
+    write_forms(alloc, forms, &mut out)?;
+    Ok(out)
 }

@@ -1,7 +1,7 @@
 //! What is answered of a text once its gap is filled.
 
 use crate::block::{Block, Filling, Gap};
-use crate::configs::{config_answer, written_again};
+use crate::kinds::{judge_row, judge_spelled};
 use std::alloc::Global;
 use test_rows::{RowFault, Tally, read_spelled};
 
@@ -53,10 +53,15 @@ fn judge_misfit(
     why: &str,
     tally: &mut Tally,
 ) -> Result<(), RowFault> {
-    let front = format!(in alloc; "{}{}", around.before, gap.before)?;
-    let place = read_spelled(alloc, front.as_str())?.len();
+    let place = length_of(alloc, around.before, gap.before)?;
     let wanted = format!(in alloc; "config refused at {place}: {why}")?;
     judge_config(alloc, around, gap, text, wanted.as_str(), tally)
+}
+
+/// How many bytes the two texts spell together.
+fn length_of(alloc: Global, outer: &str, inner: &str) -> Result<usize, RowFault> {
+    let front = format!(in alloc; "{outer}{inner}")?;
+    Ok(read_spelled(alloc, front.as_str())?.len())
 }
 
 /// Whether the text is a configuration.
@@ -82,10 +87,7 @@ fn judge_config(
         "{}{}{text}{}{}",
         around.before, gap.before, gap.after, around.after
     )?;
-    let bytes = read_spelled(alloc, asked.as_str())?;
-    let came = config_answer(alloc, bytes.as_slice())?;
-    tally.judge("config", asked.as_str(), wanted.as_bytes(), came.as_slice())?;
-    Ok(())
+    judge_row(alloc, "config", asked.as_str(), wanted.as_bytes(), tally)
 }
 
 /// Whether the canonical text has the heading, and the canonical part in the gap.
@@ -98,14 +100,5 @@ fn judge_part(
 ) -> Result<(), RowFault> {
     let asked = format!(in alloc; "{}{text}{}@<0a>", gap.before, gap.after)?;
     let wanted = format!(in alloc; "{heading}@<0a>{}{canonical}{}@<0a>", gap.before, gap.after)?;
-    let text = read_spelled(alloc, asked.as_str())?;
-    let canonical = read_spelled(alloc, wanted.as_str())?;
-    let came = written_again(alloc, text.as_slice(), canonical.as_slice())?;
-    tally.judge(
-        "written",
-        asked.as_str(),
-        canonical.as_slice(),
-        came.as_slice(),
-    )?;
-    Ok(())
+    judge_spelled(alloc, "written", asked.as_str(), wanted.as_str(), tally)
 }

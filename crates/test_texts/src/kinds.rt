@@ -3,10 +3,34 @@
 use crate::{configs, forms, plans, suites};
 use ev_types::Blob;
 use std::alloc::Global;
-use test_rows::{RowFault, read_spelled};
+use test_rows::{RowFault, Tally, read_spelled};
+
+/// Judges a row of this kind by what comes of it.
+pub fn judge_row(
+    alloc: Global,
+    kind: &str,
+    asked: &str,
+    wanted: &[u8],
+    tally: &mut Tally,
+) -> Result<(), RowFault> {
+    let came = answer(alloc, kind, asked, wanted)?;
+    Ok(tally.judge(kind, asked, wanted, came.as_slice())?)
+}
+
+/// The same where bytes can be spelled in what is wanted.
+pub fn judge_spelled(
+    alloc: Global,
+    kind: &str,
+    asked: &str,
+    wanted: &str,
+    tally: &mut Tally,
+) -> Result<(), RowFault> {
+    let wanted = read_spelled(alloc, wanted)?;
+    judge_row(alloc, kind, asked, wanted.as_slice(), tally)
+}
 
 /// What comes of a row of this kind.
-pub fn answer(alloc: Global, kind: &str, asked: &str, wanted: &[u8]) -> Result<Blob, RowFault> {
+fn answer(alloc: Global, kind: &str, asked: &str, wanted: &[u8]) -> Result<Blob, RowFault> {
     let text = read_spelled(alloc, asked)?;
     text_answer(alloc, kind, text.as_slice(), wanted)
 }

@@ -2,6 +2,7 @@
 //! (`docs/TEST_ROWS.md`).
 #![tactic(auto)]
 
+mod answers;
 mod block;
 mod configs;
 mod forms;
@@ -14,6 +15,7 @@ mod suites;
 use crate::sheet::read_sheet;
 use std::rt::{Env, Files};
 use std::{env, fs, io};
+use test_rows::Tally;
 
 fn main(rt: HostRuntime) -> io::Result<()> {
     for name in env::args(&rt)?.skip(1) {
@@ -25,8 +27,9 @@ fn main(rt: HostRuntime) -> io::Result<()> {
 /// Prints what is found of the rows of the file.
 fn print_file<R: Files + Print + AllocGlobal>(rt: &R, name: &str) -> io::Result<()> {
     let text = fs::read_to_string(rt, name)?;
-    match read_sheet(rt.alloc(), text.as_str()) {
-        Ok(tally) => tally.print(rt, name),
+    let mut tally = Tally::fresh(rt.alloc());
+    match read_sheet(rt.alloc(), text.as_str(), &mut tally) {
+        Ok(()) => tally.print(rt, name),
         Err(_) => println!(rt; "{name}: out of memory"),
     }
 }

@@ -2,97 +2,213 @@
 //! list of a name, of its numbers, of the sets in a map, of its children, and of a vector of the streams that get the
 //! rest.
 
+use crate::answers::accepted;
 use ev_types::{Blob, Field, Fields, Fold, Memory, Set, Sets, Tags, Text, Value};
 use pred_eval::Rule;
 use sexp_read::{Form, Shape, read_forms};
 use std::alloc::Global;
 use std::fmt::Write;
-use stream_plan::{Kind, Plan, PlanFault, Stream, Streams, check_kinds};
+use stream_plan::{Kind, Path, Plan, PlanFault, Stream, Streams, check_kinds};
 use test_rows::{RowFault, said};
 
 /// `ok` for a plan that is sound, or the path to the stream that is refused, and why.
 pub fn plan_answer(alloc: Global, text: &[u8]) -> Result<Blob, RowFault> {
-    let forms = read_forms(alloc, text).map_err(|_| RowFault::Unreadable)?;
+    match read_forms(alloc, text) {
+        Ok(forms) => checked(alloc, forms.as_slice()),
+        Err(_) => Err(RowFault::Unreadable),
+    }
+}
+
+fn checked(alloc: Global, forms: &[Form]) -> Result<Blob, RowFault> {
     let mut streams = Vec::new(alloc);
-    read_streams(alloc, forms.as_slice(), &mut streams)?;
+    read_streams(alloc, forms, &mut streams)?;
     match check_kinds(alloc, Plan { streams }) {
-        Ok(_) => Ok(said(String::from_str(alloc, "ok")?)),
+        Ok(_) => accepted(alloc),
         Err(fault) => refusal(alloc, &fault),
     }
 }
 
 fn refusal(alloc: Global, fault: &PlanFault) -> Result<Blob, RowFault> {
     let mut printed = String::new(alloc);
-    if let PlanFault::Refused { path, .. } = fault {
-        for number in path.as_slice() {
-            write!(printed, "{number} ")?;
-        }
-    }
-    write!(printed, "{fault}")?;
+    put_fault(&mut printed, fault)?;
     Ok(said(printed))
+}
+
+fn put_fault(out: &mut String, fault: &PlanFault) -> Result<(), Memory> {
+    if let PlanFault::Refused { path, .. } = fault {
+        put_path(out, path)?;
+    }
+    write!(out, "{fault}")?;
+    Ok(())
+}
+
+fn put_path(out: &mut String, path: &Path) -> Result<(), Memory> {
+    for number in path.as_slice() {
+        write!(out, "{number} ")?;
+    }
+    Ok(())
 }
 
 #[cycle(streams)]
 fn read_streams(alloc: Global, forms: &[Form], streams: &mut Streams) -> Result<(), RowFault> {
     for form in forms {
-        streams.push(read_stream(alloc, form)?)?;
+        push_read(streams, read_stream(alloc, form))?;
     }
     Ok(())
+}
+
+/// Adds the stream, where it was read.
+fn push_read(streams: &mut Streams, read: Result<Stream, RowFault>) -> Result<(), RowFault> {
+    match read {
+        Ok(stream) => Ok(streams.push(stream)?),
+        Err(fault) => Err(fault),
+    }
 }
 
 #[cycle(streams)]
 fn read_stream(alloc: Global, form: &Form) -> Result<Stream, RowFault> {
     match &form.shape {
-        Shape::Symbol(name) => Parts::fresh(alloc).into_stream(alloc, name.as_str()),
+        Shape::Symbol(name) => bare_stream(alloc, name.as_str(), &[]),
         Shape::List(forms) => {
-            let Some((head, rest)) = forms.split_first() else {
+            let Some((head, parts)) = forms.split_first() else {
                 return Err(RowFault::Unreadable);
             };
-            let mut parts = Parts::fresh(alloc);
-            read_parts(alloc, rest, &mut parts)?;
-            match &head.shape {
-                Shape::Symbol(name) => parts.into_stream(alloc, name.as_str()),
-                _ => Err(RowFault::Unreadable),
-            }
+            let mut stream = headed_stream(alloc, head, parts)?;
+            let read = read_branches(alloc, parts, &mut stream);
+            whole(stream, read)
         }
         _ => Err(RowFault::Unreadable),
     }
 }
 
-/// What is after the name of a stream.
-#[derive(Drop)]
-struct Parts {
-    numbers: Vec<u32>,
-    sets: Sets,
-    children: Streams,
-    otherwise: Streams,
+/// The stream, where its parts were read.
+fn whole(stream: Stream, read: Result<(), RowFault>) -> Result<Stream, RowFault> {
+    match read {
+        Ok(()) => Ok(stream),
+        Err(fault) => Err(fault),
+    }
 }
 
+/// Adds the streams that are among the parts of a stream to it.
 #[cycle(streams)]
-fn read_parts(alloc: Global, forms: &[Form], parts: &mut Parts) -> Result<(), RowFault> {
-    for form in forms {
-        match &form.shape {
-            Shape::Number(number) => parts.push_number(*number)?,
-            Shape::Map(entries) => parts.sets = read_sets(alloc, entries.as_slice())?,
-            Shape::Vector(forms) => read_streams(alloc, forms.as_slice(), &mut parts.otherwise)?,
-            _ => parts.children.push(read_stream(alloc, form)?)?,
+fn read_branches(alloc: Global, parts: &[Form], stream: &mut Stream) -> Result<(), RowFault> {
+    for part in parts {
+        match &part.shape {
+            Shape::Number(_) | Shape::Map(_) => {}
+            Shape::Vector(forms) => {
+                read_streams(alloc, forms.as_slice(), &mut stream.otherwise)?;
+            }
+            _ => push_read(&mut stream.children, read_stream(alloc, part))?,
         }
     }
     Ok(())
 }
 
-/// A set of one field to one value.
-fn read_sets(alloc: Global, entries: &[Form]) -> Result<Sets, RowFault> {
-    let mut sets = Sets::fresh(alloc);
-    match entries {
-        [] => {}
-        [field, value] => {
-            let field = read_field(alloc, field)?;
-            let value = read_value(alloc, value)?;
-            sets.push(alloc, Set { field, value })?;
-        }
-        _ => return Err(RowFault::Unreadable),
+fn headed_stream(alloc: Global, head: &Form, parts: &[Form]) -> Result<Stream, RowFault> {
+    match &head.shape {
+        Shape::Symbol(name) => bare_stream(alloc, name.as_str(), parts),
+        _ => Err(RowFault::Unreadable),
     }
+}
+
+/// The stream of this name with the numbers and the sets of these parts, but not with their streams.
+fn bare_stream(alloc: Global, name: &str, parts: &[Form]) -> Result<Stream, RowFault> {
+    let numbers = read_numbers(parts)?;
+    if name == "tower" {
+        return tower(alloc, numbers.count());
+    }
+    match read_kind(alloc, name, numbers, parts) {
+        Ok(kind) => Ok(leaf(alloc, kind)),
+        Err(fault) => Err(fault),
+    }
+}
+
+/// The first number of a stream, and the last one after it.
+#[derive(Clone, Copy)]
+struct Numbers {
+    first: Option<u32>,
+    second: Option<u32>,
+}
+
+impl Numbers {
+    fn push(&mut self, number: i64) -> Result<(), RowFault> {
+        let Ok(number) = u32::try_from(number) else {
+            return Err(RowFault::Unreadable);
+        };
+        if self.first.is_none() {
+            self.first = Some(number);
+        } else {
+            self.second = Some(number);
+        }
+        Ok(())
+    }
+
+    fn count(&self) -> u32 {
+        self.first.unwrap_or(1)
+    }
+
+    fn secs(&self) -> u32 {
+        self.second.unwrap_or(1)
+    }
+}
+
+fn read_numbers(parts: &[Form]) -> Result<Numbers, RowFault> {
+    let mut numbers = Numbers {
+        first: None,
+        second: None,
+    };
+    for part in parts {
+        if let Shape::Number(number) = &part.shape {
+            numbers.push(*number)?;
+        }
+    }
+    Ok(numbers)
+}
+
+/// What a stream of this name does.
+fn read_kind(
+    alloc: Global,
+    name: &str,
+    numbers: Numbers,
+    parts: &[Form],
+) -> Result<Kind, RowFault> {
+    match name {
+        "notice" => Ok(Kind::Notice(Text::from_str(alloc, "n")?)),
+        "with" => Ok(Kind::With(sets_of(alloc, parts)?)),
+        "default" => Ok(Kind::Default(sets_of(alloc, parts)?)),
+        _ => named_kind(alloc, name, numbers).ok_or(RowFault::Unreadable),
+    }
+}
+
+/// The sets in the first map of these parts.
+fn sets_of(alloc: Global, parts: &[Form]) -> Result<Sets, RowFault> {
+    for part in parts {
+        if let Shape::Map(entries) = &part.shape {
+            return read_sets(alloc, entries.as_slice());
+        }
+    }
+    Ok(Sets::fresh(alloc))
+}
+
+/// A set of one field to one value, or none.
+fn read_sets(alloc: Global, entries: &[Form]) -> Result<Sets, RowFault> {
+    match entries {
+        [] => Ok(Sets::fresh(alloc)),
+        [field, value] => one_set(alloc, read_field(alloc, field)?, value),
+        _ => Err(RowFault::Unreadable),
+    }
+}
+
+fn one_set(alloc: Global, field: Field, value: &Form) -> Result<Sets, RowFault> {
+    match read_value(alloc, value) {
+        Ok(value) => sets_with(alloc, Set { field, value }),
+        Err(fault) => Err(fault),
+    }
+}
+
+fn sets_with(alloc: Global, set: Set) -> Result<Sets, RowFault> {
+    let mut sets = Sets::fresh(alloc);
+    sets.push(alloc, set)?;
     Ok(sets)
 }
 
@@ -112,54 +228,20 @@ fn read_value(alloc: Global, form: &Form) -> Result<Value, RowFault> {
     }
 }
 
-impl Parts {
-    fn fresh(alloc: Global) -> Parts {
-        Parts {
-            numbers: Vec::new(alloc),
-            sets: Sets::fresh(alloc),
-            children: Vec::new(alloc),
-            otherwise: Vec::new(alloc),
-        }
-    }
-
-    fn push_number(&mut self, number: i64) -> Result<(), RowFault> {
-        let number = u32::try_from(number).map_err(|_| RowFault::Unreadable)?;
-        self.numbers.push(number)?;
-        Ok(())
-    }
-
-    fn number(&self, place: usize) -> u32 {
-        self.numbers.get(place).copied().unwrap_or(1)
-    }
-
-    /// The stream of the name that has these parts.
-    fn into_stream(self, alloc: Global, name: &str) -> Result<Stream, RowFault> {
-        if name == "tower" {
-            return tower(alloc, self.number(0));
-        }
-        let (count, secs) = (self.number(0), self.number(1));
-        let idle = self.numbers.first().copied();
-        let kind = match plain_kind(alloc, name, self.sets, idle)? {
-            Some(kind) => kind,
-            None => ranged_kind(name, count, secs).ok_or(RowFault::Unreadable)?,
-        };
-        Ok(Stream {
-            kind,
-            children: self.children,
-            otherwise: self.otherwise,
-        })
-    }
-}
-
 /// This many streams, each with one child but for the last.
 fn tower(alloc: Global, streams: u32) -> Result<Stream, RowFault> {
     let mut top = leaf(alloc, Kind::Index);
     for _ in 1..streams {
-        let mut outer = leaf(alloc, Kind::Sdo);
-        outer.children.push(top)?;
-        top = outer;
+        top = above(alloc, top)?;
     }
     Ok(top)
+}
+
+/// A stream with this child.
+fn above(alloc: Global, child: Stream) -> Result<Stream, RowFault> {
+    let mut stream = leaf(alloc, Kind::Sdo);
+    let pushed = push_read(&mut stream.children, Ok(child));
+    whole(stream, pushed)
 }
 
 fn leaf(alloc: Global, kind: Kind) -> Stream {
@@ -170,33 +252,25 @@ fn leaf(alloc: Global, kind: Kind) -> Stream {
     }
 }
 
-/// The kinds that need no number. `never` is a `where` that no event meets.
-fn plain_kind(
-    alloc: Global,
-    name: &str,
-    sets: Sets,
-    idle: Option<u32>,
-) -> Result<Option<Kind>, Memory> {
-    Ok(Some(match name {
+/// The kinds that take no memory. `never` is a `where` that no event meets.
+fn named_kind(alloc: Global, name: &str, numbers: Numbers) -> Option<Kind> {
+    Some(match name {
         "index" => Kind::Index,
-        "notice" => Kind::Notice(Text::from_str(alloc, "n")?),
         "sdo" => Kind::Sdo,
         "where" => Kind::Where(Rule::Always),
         "never" => Kind::Where(Rule::Never),
-        "with" => Kind::With(sets),
-        "default" => Kind::Default(sets),
         "tag" => Kind::Tag(Tags::fresh(alloc)),
         "by" => Kind::By {
             fields: Fields::fresh(alloc),
-            idle,
+            idle: numbers.first,
         },
         "changed" => Kind::Changed {
             field: Field::State,
             init: None,
         },
         "smap" => Kind::Smap(Fold::Sum),
-        _ => return Ok(None),
-    }))
+        _ => return ranged_kind(name, numbers.count(), numbers.secs()),
+    })
 }
 
 /// The kinds with a count or seconds, of which each has those that it needs.

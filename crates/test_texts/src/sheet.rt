@@ -2,23 +2,30 @@
 
 use crate::block::Block;
 use crate::gaps::judge_block;
-use crate::kinds::answer;
+use crate::kinds::judge_spelled;
 use ev_types::Memory;
 use std::alloc::Global;
-use test_rows::{Field, Row, RowFault, Tally, read_rows, read_spelled, split_row};
+use test_rows::{Field, Row, RowFault, Tally, read_rows, split_row};
 
-/// What is found of the rows of the text.
-pub fn read_sheet(alloc: Global, text: &str) -> Result<Tally, Memory> {
+/// Judges the rows of the text.
+pub fn read_sheet(alloc: Global, text: &str, tally: &mut Tally) -> Result<(), Memory> {
     let rows = read_rows(alloc, text)?;
-    let mut tally = Tally::fresh(alloc);
-    read_blocks(alloc, rows.as_slice(), &mut tally)?;
-    Ok(tally)
+    read_rows_of(alloc, rows.as_slice(), tally)
 }
 
-fn read_blocks<'a>(alloc: Global, rows: &'a [Row], tally: &mut Tally) -> Result<(), Memory> {
+fn read_rows_of<'a>(alloc: Global, rows: &'a [Row], tally: &mut Tally) -> Result<(), Memory> {
     let mut block: Block<'a> = Block::fresh(alloc);
+    read_blocks(alloc, rows, &mut block, tally)
+}
+
+fn read_blocks<'a>(
+    alloc: Global,
+    rows: &'a [Row],
+    block: &mut Block<'a>,
+    tally: &mut Tally,
+) -> Result<(), Memory> {
     for row in rows {
-        read_block(alloc, row, &mut block, tally)?;
+        read_block(alloc, row, block, tally)?;
     }
     Ok(())
 }
@@ -55,8 +62,5 @@ fn read_line<'a>(
         return Ok(());
     }
     let (asked, wanted) = split_row(text)?;
-    let wanted = read_spelled(alloc, wanted)?;
-    let came = answer(alloc, key, asked, wanted.as_slice())?;
-    tally.judge(key, asked, wanted.as_slice(), came.as_slice())?;
-    Ok(())
+    judge_spelled(alloc, key, asked, wanted, tally)
 }

@@ -1,7 +1,8 @@
 //! Rows of tests of configurations.
 
+use crate::answers::refused;
 use config_tests::{Entry, Expect, Test, TestFault, read_tests};
-use ev_types::{Blob, Item, Memory};
+use ev_types::{Blob, Event, Item, Memory};
 use notice_sink::{put_item, put_quoted};
 use std::alloc::Global;
 use test_rows::{RowFault, said};
@@ -9,68 +10,87 @@ use test_rows::{RowFault, said};
 /// The tests that the text is, in one line, or why it is no tests.
 pub fn tests_answer(alloc: Global, text: &[u8]) -> Result<Blob, RowFault> {
     match read_tests(alloc, text) {
-        Ok(tests) => Ok(tests_line(alloc, tests.as_slice())?),
+        Ok(tests) => tests_line(alloc, tests.as_slice()),
         Err(fault) => refusal(alloc, fault),
     }
 }
 
-/// The text of the fault, which ends with the name of its cause.
 fn refusal(alloc: Global, fault: TestFault) -> Result<Blob, RowFault> {
     let printed = format!(in alloc; "{fault}")?;
-    let name = match fault {
-        TestFault::Refused { why, .. } => why.name(),
-        TestFault::Memory => "",
-    };
-    if printed.as_str().ends_with(name) {
-        Ok(said(printed))
-    } else {
-        Ok(said(format!(in alloc; "{printed}, named {name}")?))
+    match fault {
+        TestFault::Refused { why, .. } => refused(printed, why.name()),
+        TestFault::Memory => Ok(said(printed)),
     }
 }
 
 /// Each test between brackets; `none` where there is no test.
-fn tests_line(alloc: Global, tests: &[Test]) -> Result<Blob, Memory> {
+fn tests_line(alloc: Global, tests: &[Test]) -> Result<Blob, RowFault> {
     if tests.is_empty() {
-        return Blob::from_slice(alloc, b"none");
+        return Ok(Blob::from_slice(alloc, b"none")?);
     }
     let mut line = Blob::fresh(alloc);
-    for test in tests {
-        put_test(alloc, test, &mut line)?;
-    }
+    put_tests(alloc, tests, &mut line)?;
     Ok(line)
+}
+
+fn put_tests(alloc: Global, tests: &[Test], line: &mut Blob) -> Result<(), Memory> {
+    for test in tests {
+        put_test(alloc, test, line)?;
+    }
+    Ok(())
 }
 
 /// The name, what comes, and what is expected, with events and items as in notice lines.
 fn put_test(alloc: Global, test: &Test, line: &mut Blob) -> Result<(), Memory> {
-    line.append(alloc, b"(")?;
+    line.push(alloc, b'(')?;
     put_quoted(alloc, &test.name, line)?;
-    for entry in test.entries.as_slice() {
+    put_entries(alloc, test.entries.as_slice(), line)?;
+    put_expects(alloc, test.expects.as_slice(), line)?;
+    line.push(alloc, b')')
+}
+
+fn put_entries(alloc: Global, entries: &[Entry], line: &mut Blob) -> Result<(), Memory> {
+    for entry in entries {
         put_entry(alloc, entry, line)?;
     }
-    for expect in test.expects.as_slice() {
-        put_expect(alloc, expect, line)?;
-    }
-    line.append(alloc, b")")
+    Ok(())
 }
 
 fn put_entry(alloc: Global, entry: &Entry, line: &mut Blob) -> Result<(), Memory> {
     match entry {
-        Entry::Tick { count } => {
-            let printed = format!(in alloc; " tick {count}")?;
-            line.append(alloc, printed.as_bytes())
-        }
-        Entry::Event(event) => {
-            line.append(alloc, b" event ")?;
-            put_item(alloc, &Item::One(event.copy(alloc)?), line)
-        }
+        Entry::Tick { count } => put_tick(alloc, *count, line),
+        Entry::Event(event) => put_event(alloc, event, line),
     }
+}
+
+fn put_tick(alloc: Global, count: u32, line: &mut Blob) -> Result<(), Memory> {
+    let printed = format!(in alloc; " tick {count}")?;
+    line.append(alloc, printed.as_bytes())
+}
+
+fn put_event(alloc: Global, event: &Event, line: &mut Blob) -> Result<(), Memory> {
+    line.append(alloc, b" event ")?;
+    let item = Item::One(event.copy(alloc)?);
+    put_item(alloc, &item, line)
+}
+
+fn put_expects(alloc: Global, expects: &[Expect], line: &mut Blob) -> Result<(), Memory> {
+    for expect in expects {
+        put_expect(alloc, expect, line)?;
+    }
+    Ok(())
 }
 
 fn put_expect(alloc: Global, expect: &Expect, line: &mut Blob) -> Result<(), Memory> {
     line.append(alloc, b" expect ")?;
     put_quoted(alloc, &expect.name, line)?;
-    for item in expect.items.as_slice() {
-        line.append(alloc, b" ")?;
+    put_items(alloc, expect.items.as_slice(), line)
+}
+
+/// The items, each after a blank.
+fn put_items(alloc: Global, items: &[Item], line: &mut Blob) -> Result<(), Memory> {
+    for item in items {
+        line.push(alloc, b' ')?;
         put_item(alloc, item, line)?;
     }
     Ok(())
