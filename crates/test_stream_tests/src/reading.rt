@@ -1,11 +1,10 @@
 //! Texts that are tests, and for what others are refused.
 
 use std::alloc::Global;
-use std::test::Fail;
 use stream_tests::{TestFault, read_tests};
 
 /// Texts, and how many tests they are.
-const READ: [(&str, usize); 9] = [
+const READ: &[(&str, usize)] = &[
     ("", 0),
     ("(test \"t\")", 1),
     ("(test \"t\") (test \"t\")", 2),
@@ -33,7 +32,7 @@ const READ: [(&str, usize); 9] = [
 ];
 
 /// Texts that are refused, with the place and the cause.
-const REFUSED: [(&str, usize, &str); 35] = [
+const REFUSED: &[(&str, usize, &str)] = &[
     ("(test \"t\"", 0, "open"),
     ("(test \"t\" (tick 1x))", 16, "number"),
     ("(tests \"t\")", 0, "form"),
@@ -83,36 +82,36 @@ const REFUSED: [(&str, usize, &str); 35] = [
     ),
 ];
 
-/// The number of the first text that is not as many tests.
-fn first_unread(alloc: Global) -> Result<Option<usize>, Fail> {
-    for (i, (text, count)) in READ.iter().enumerate() {
-        if read_tests(alloc, text.as_bytes())?.len() != *count {
-            return Ok(Some(i));
-        }
-    }
-    Ok(None)
-}
-
-/// The number of the first text that is not refused so.
-fn first_accepted(alloc: Global) -> Option<usize> {
-    for (i, (text, place, name)) in REFUSED.iter().enumerate() {
-        if !is_refused(alloc, text, *place, name) {
-            return Some(i);
-        }
-    }
-    None
-}
-
-fn is_refused(alloc: Global, text: &str, wanted: usize, name: &str) -> bool {
+/// How many tests the text is.
+fn count_of(alloc: Global, text: &str) -> Result<usize, TestFault> {
     match read_tests(alloc, text.as_bytes()) {
+        Ok(tests) => Ok(tests.len()),
+        Err(fault) => Err(fault),
+    }
+}
+
+/// Whether the text is as many tests.
+fn is_read(alloc: Global, text: &str, wanted: usize) -> bool {
+    match count_of(alloc, text) {
+        Ok(count) => count == wanted,
+        Err(_) => false,
+    }
+}
+
+/// Whether the text is refused at the place for the cause of this name.
+fn is_refused(alloc: Global, text: &str, wanted: usize, name: &str) -> bool {
+    match count_of(alloc, text) {
         Err(TestFault::Refused { place, why }) => place == wanted && why.name() == name,
         _ => false,
     }
 }
 
 #[test]
-fn texts_are_read_or_refused(rt: HostRuntime) -> Result<(), Fail> {
-    assert_eq!(rt; first_unread(rt.alloc())?, None);
-    assert_eq!(rt; first_accepted(rt.alloc()), None);
-    Ok(())
+fn texts_are_read_or_refused(rt: HostRuntime) {
+    for (text, count) in READ {
+        assert!(rt; is_read(rt.alloc(), text, *count), "{text}");
+    }
+    for (text, place, name) in REFUSED {
+        assert!(rt; is_refused(rt.alloc(), text, *place, name), "{text}");
+    }
 }
