@@ -1,7 +1,9 @@
+ghost use Rattle.journal_format.specs.Spelling.{IsRecord};
+
 use ev_types::Memory;
 use journal_format::{
-    Found, NoJournal, SendEnd, Summary, find_gate, push_head, push_read_turn, push_record,
-    push_turn, read_record,
+    Found, NoJournal, SendEnd, Summary, TurnRecord, find_gate, push_head, push_read_turn,
+    push_record, push_turn, read_record,
 };
 use std::alloc::Global;
 use std::test::Fail;
@@ -20,18 +22,43 @@ pub(crate) const LISTEN: &[u8; 11] = b"\x00\x00\x00\x00\x00\x00\x00\x00\x00\x00\
 const READ: &[u8; 42] =
     b"\x00\x01\x00\x00\x00\x00\x00\x00\x00\x07\x00\x00\x00\x00\x00\x00\x00\x05\x01\x00\x00\x00\x00\x00\x00\x00\x0a\x03\x00\x00\x00\x00\x00\x00\x00\x07\x00\x00\x00\x02ab";
 
-/// Whether the bytes are read as one record, and that is written so.
-fn is_written_again(alloc: Global, bytes: &[u8]) -> Result<bool, Memory> {
-    let (entry, rest) = match read_record(alloc, bytes) {
-        Ok(read) => read,
-        Err(_) => return Ok(false),
-    };
+/// Whether the record is written as these bytes.
+fn is_written(alloc: Global, entry: &TurnRecord, bytes: &[u8]) -> Result<bool, Memory>
+    requires { IsRecord entry.now }
+{
     let mut whole = Vec::new(alloc);
-    push_record(alloc, &mut whole, &entry)?;
+    push_record(alloc, &mut whole, entry)?;
+    Ok(whole.as_slice() == bytes)
+}
+
+/// Whether the record is written as these bytes from its parts.
+fn is_written_in_parts(alloc: Global, entry: &TurnRecord, bytes: &[u8]) -> Result<bool, Memory>
+    requires { IsRecord entry.now }
+{
     let mut parts = Vec::new(alloc);
     let summaries = entry.summaries.as_slice();
     push_turn(alloc, &mut parts, summaries, entry.secs, &entry.event)?;
-    Ok(rest.is_empty() && whole.as_slice() == bytes && parts.as_slice() == bytes)
+    Ok(parts.as_slice() == bytes)
+}
+
+/// Whether the record is written as these bytes in each of two ways.
+fn is_written_twice(alloc: Global, entry: &TurnRecord, bytes: &[u8]) -> Result<bool, Memory>
+    requires { IsRecord entry.now }
+{
+    let whole = is_written(alloc, entry, bytes)?;
+    let parts = is_written_in_parts(alloc, entry, bytes)?;
+    Ok(whole && parts)
+}
+
+/// Whether the bytes are read as one record, and that is written so.
+fn is_written_again(alloc: Global, bytes: &[u8]) -> Result<bool, Memory> {
+    match read_record(alloc, bytes) {
+        Ok((entry, rest)) => {
+            let written = is_written_twice(alloc, &entry, bytes)?;
+            Ok(rest.is_empty() && written)
+        }
+        Err(_) => Ok(false),
+    }
 }
 
 /// Whether the record of a read is written from its bytes.
@@ -46,12 +73,25 @@ fn is_read_written(alloc: Global) -> Result<bool, Memory> {
     Ok(bytes.as_slice() == READ.as_slice())
 }
 
+/// Bytes, each with whether they are a record.
+const RECORDS: &[(&[u8], bool)] = &[(LISTEN, true), (READ, true), (b"\x00\x00", false)];
+
+/// Whether the bytes of each row are read as a record where it says so.
+fn are_written_again(alloc: Global) -> Result<bool, Memory> {
+    for (bytes, is_record) in RECORDS {
+        if is_written_again(alloc, bytes)? != *is_record {
+            return Ok(false);
+        }
+    }
+    Ok(true)
+}
+
 #[test]
 fn records_are_read_and_written(rt: HostRuntime) -> Result<(), Fail> {
-    assert!(rt; is_written_again(rt.alloc(), LISTEN)?);
-    assert!(rt; is_written_again(rt.alloc(), READ)?);
-    assert!(rt; !is_written_again(rt.alloc(), b"\x00\x00")?);
-    assert!(rt; is_read_written(rt.alloc())?);
+    let again = are_written_again(rt.alloc())?;
+    assert!(rt; again);
+    let written = is_read_written(rt.alloc())?;
+    assert!(rt; written);
     Ok(())
 }
 
@@ -63,17 +103,33 @@ fn is_head_written(alloc: Global) -> Result<bool, Memory> {
     Ok(bytes.as_slice() == &journal[1..20])
 }
 
+/// How many bytes of the journal there are, and what is found in them.
+const GATES: &[(usize, Result<Found, NoJournal>)] = &[
+    (
+        33,
+        Ok(Found {
+            gate: 32,
+            has_record: true,
+        }),
+    ),
+    (32, Err(NoJournal::Refused { place: 32 })),
+    (0, Err(NoJournal::Refused { place: 0 })),
+];
+
+/// Whether this is found in so many bytes of the journal.
+fn is_found(alloc: Global, count: usize, wanted: &Result<Found, NoJournal>) -> bool {
+    match JOURNAL.as_slice().get(..count) {
+        Some(bytes) => bytes.len() < 1000 && find_gate(alloc, bytes) == *wanted,
+        None => false,
+    }
+}
+
 #[test]
 fn a_journal_is_found_in_its_bytes(rt: HostRuntime) -> Result<(), Fail> {
-    assert!(rt; is_head_written(rt.alloc())?);
-    let found = Found {
-        gate: 32,
-        has_record: true,
-    };
-    assert!(rt; find_gate(rt.alloc(), JOURNAL) == Ok(found));
-    let journal = JOURNAL.as_slice();
-    let cut = find_gate(rt.alloc(), &journal[..32]);
-    assert!(rt; cut == Err(NoJournal::Refused { place: 32 }));
-    assert!(rt; find_gate(rt.alloc(), b"") == Err(NoJournal::Refused { place: 0 }));
+    let written = is_head_written(rt.alloc())?;
+    assert!(rt; written);
+    for (count, wanted) in GATES {
+        assert!(rt; is_found(rt.alloc(), *count, wanted), "{count} bytes");
+    }
     Ok(())
 }

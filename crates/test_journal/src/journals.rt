@@ -1,19 +1,26 @@
+ghost use Rattle.std.specs.Prelude.{◌≡◌, true};
+ghost use Rattle.turn_journal.specs.Standing.{IsNext};
+
+use crate::disks::disk_of;
 use crate::formats::{CONFIG, JOURNAL, LISTEN};
 use disk_port::{Disk, DiskError, MemDisk};
-use ev_types::{Blob, Memory};
+use ev_types::Memory;
 use journal_format::read_record;
 use std::alloc::Global;
 use std::test::Fail;
 use turn_journal::{JournalFault, JournalFile, begin_on, load_on};
 
-/// A disk in memory that has these bytes, and of which no call fails.
-fn disk_of(alloc: Global, bytes: &[u8]) -> Result<MemDisk, Memory> {
-    MemDisk::fresh(
-        alloc,
-        Blob::from_slice(alloc, bytes)?,
-        Vec::new(alloc),
-        None,
-    )
+/// Whether the bytes are a record that may come next in a journal.
+fn is_next(alloc: Global, has_record: bool, bytes: &[u8]) -> bool
+    ensures { result ≡ true → IsNext has_record bytes.now }
+{
+    match read_record(alloc, bytes) {
+        Ok((entry, rest)) => {
+            let is_first = !has_record;
+            rest.is_empty() && entry.event.is_listen() == is_first
+        }
+        Err(_) => false,
+    }
 }
 
 /// Adds the record that the bytes are, if they are one that may come next in a short journal.
@@ -22,56 +29,82 @@ fn add<D: Disk>(
     file: &mut JournalFile<'_, D>,
     bytes: &[u8],
 ) -> Result<(), DiskError> {
-    let (entry, rest) = match read_record(alloc, bytes) {
-        Ok(read) => read,
-        Err(_) => return Err(DiskError::Failed),
-    };
-    let is_first = !file.has_record;
     if file.failed || file.gate > 1000 || bytes.len() > 1000 {
         return Err(DiskError::Failed);
     }
-    if !rest.is_empty() || entry.event.is_listen() != is_first {
+    if !is_next(alloc, file.has_record, bytes) {
         return Err(DiskError::Failed);
     }
     file.append(alloc, bytes)
 }
 
+/// Whether a record is added to the journal, as its first one.
+fn is_added<D: Disk>(alloc: Global, file: &mut JournalFile<'_, D>) -> bool {
+    let added = add(alloc, file, LISTEN) == Ok(());
+    added && file.gate == 32 && file.has_record && !file.failed
+}
+
 /// Whether a journal is begun in an empty file, and a record added.
 fn is_begun<D: Disk>(alloc: Global, disk: &mut D) -> Result<bool, JournalFault> {
     let mut room = Vec::new(alloc);
-    let mut file = JournalFile::begin(alloc, disk, &mut room, CONFIG)?;
-    let added = add(alloc, &mut file, LISTEN) == Ok(());
-    Ok(added && file.gate == 32 && file.has_record && !file.failed)
+    match JournalFile::begin(alloc, disk, &mut room, CONFIG) {
+        Ok(mut file) => Ok(is_added(alloc, &mut file)),
+        Err(fault) => Err(fault),
+    }
 }
 
 /// Whether the journal is loaded.
 fn is_loaded<D: Disk>(alloc: Global, disk: &mut D) -> Result<bool, JournalFault> {
     let mut room = Vec::new(alloc);
-    let (file, bytes) = match JournalFile::load(alloc, disk, &mut room) {
-        Ok(loaded) => loaded,
-        Err(fault) => return Err(fault),
-    };
-    Ok(file.gate == 32 && file.has_record && bytes.as_slice() == JOURNAL.as_slice())
+    match JournalFile::load(alloc, disk, &mut room) {
+        Ok((file, bytes)) => {
+            let same = bytes.as_slice() == JOURNAL.as_slice();
+            Ok(same && file.gate == 32 && file.has_record)
+        }
+        Err(fault) => Err(fault),
+    }
+}
+
+/// Whether a journal is begun on the empty disk, added to and loaded.
+fn keeps_journal(alloc: Global, disk: &mut MemDisk) -> bool {
+    let begun = is_begun(alloc, disk) == Ok(true);
+    let written = disk.file.as_slice() == JOURNAL.as_slice();
+    let loaded = is_loaded(alloc, disk) == Ok(true);
+    begun && written && loaded
 }
 
 #[test]
 fn a_journal_is_begun_added_to_and_loaded(rt: HostRuntime) -> Result<(), Fail> {
-    let mut disk = disk_of(rt.alloc(), b"")?;
-    assert!(rt; is_begun(rt.alloc(), &mut disk) == Ok(true));
-    assert!(rt; disk.file.as_slice() == JOURNAL.as_slice());
-    assert!(rt; is_loaded(rt.alloc(), &mut disk) == Ok(true));
+    let mut disk = disk_of(rt.alloc(), b"", None)?;
+    assert!(rt; keeps_journal(rt.alloc(), &mut disk));
     Ok(())
+}
+
+/// Whether no journal is begun over one.
+fn is_taken(alloc: Global) -> Result<bool, Memory> {
+    let mut disk = disk_of(alloc, JOURNAL, None)?;
+    Ok(begin_on(alloc, &mut disk, CONFIG) == Err(JournalFault::Refused { place: 0 }))
+}
+
+/// Whether a journal that is cut is refused.
+fn is_cut_refused(alloc: Global) -> Result<bool, Memory> {
+    let mut disk = disk_of(alloc, &JOURNAL[..25], None)?;
+    Ok(is_loaded(alloc, &mut disk) == Err(JournalFault::Refused { place: 21 }))
+}
+
+/// Whether no journal is loaded from an empty file.
+fn is_empty_refused(alloc: Global) -> Result<bool, Memory> {
+    let mut disk = disk_of(alloc, b"", None)?;
+    Ok(load_on(alloc, &mut disk).is_err())
 }
 
 #[test]
 fn files_are_refused_at_a_place(rt: HostRuntime) -> Result<(), Fail> {
-    let mut disk = disk_of(rt.alloc(), JOURNAL)?;
-    let taken = begin_on(rt.alloc(), &mut disk, CONFIG);
-    assert!(rt; taken == Err(JournalFault::Refused { place: 0 }));
-    let mut cut = disk_of(rt.alloc(), &JOURNAL[..25])?;
-    let refused = is_loaded(rt.alloc(), &mut cut);
-    assert!(rt; refused == Err(JournalFault::Refused { place: 21 }));
-    let mut empty = disk_of(rt.alloc(), b"")?;
-    assert!(rt; load_on(rt.alloc(), &mut empty).is_err());
+    let taken = is_taken(rt.alloc())?;
+    assert!(rt; taken);
+    let cut = is_cut_refused(rt.alloc())?;
+    assert!(rt; cut);
+    let empty = is_empty_refused(rt.alloc())?;
+    assert!(rt; empty);
     Ok(())
 }
