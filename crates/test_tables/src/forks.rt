@@ -22,36 +22,44 @@ fn added(
     number: i64,
     value: u64,
     now: u64,
-) -> Result<Option<usize>, Memory> {
-    let key = key(alloc, number)?;
+) -> Option<usize> {
+    let Ok(key) = key(alloc, number) else {
+        return None;
+    };
     if table.find(&key).is_some() {
-        return Ok(None);
+        return None;
     }
-    let number = table.add(alloc, key, value, now)?;
-    Ok(Some(number))
+    table.add(alloc, key, value, now).ok()
 }
 
 /// Whether the key of the number has this fork number.
-fn is_found(
-    alloc: Global,
-    table: &ForkTable<u64>,
-    number: i64,
-    fork: Option<usize>,
-) -> Result<bool, Memory> {
-    let key = key(alloc, number)?;
-    Ok(table.find(&key) == fork)
+fn is_found(alloc: Global, table: &ForkTable<u64>, number: i64, fork: Option<usize>) -> bool {
+    match key(alloc, number) {
+        Ok(key) => table.find(&key) == fork,
+        Err(Memory) => false,
+    }
 }
 
-/// Whether an event whose moment is the number is known to be of this fork, where the keys of forks are moments.
-fn is_known(
-    alloc: Global,
-    table: &ForkTable<u64>,
-    number: i64,
-    fork: Option<usize>,
-) -> Result<bool, Memory> {
+/// The fields of keys that are moments.
+fn moments(alloc: Global) -> Result<Fields, Memory> {
     let mut fields = Fields::fresh(alloc);
     fields.push(alloc, Field::Time)?;
-    Ok(table.known(&Event::at(alloc, number), &fields) == fork)
+    Ok(fields)
+}
+
+/// Whether events whose moments are these numbers are known to be of these forks, where the keys of forks are moments.
+fn are_known_as(
+    alloc: Global,
+    table: &ForkTable<u64>,
+    rows: &[(i64, Option<usize>)],
+) -> Result<bool, Memory> {
+    let fields = moments(alloc)?;
+    for row in rows {
+        if table.known(&Event::at(alloc, row.0), &fields) != row.1 {
+            return Ok(false);
+        }
+    }
+    Ok(true)
 }
 
 /// Sets when the fork of the number is due, if there is such a fork.
@@ -85,133 +93,165 @@ fn enter(table: &mut ForkTable<u64>, number: usize, steps: &mut Steps<CountLedge
     Some(old)
 }
 
-/// Whether the first and the second fork, which are due at the moments 7 and 5, are given at moment 7 in the order in
-/// which they were added, once though it is asked twice.
+/// Whether these forks are given at moment 7, once though it is asked twice, and no fork is due then.
 fn are_given_once(
     alloc: Global,
     table: &mut ForkTable<u64>,
-    first: usize,
-    second: usize,
     steps: &mut Steps<CountLedger>,
+    forks: &[usize],
 ) -> Result<bool, Memory> {
-    set_due(alloc, table, second, 5)?;
-    set_due(alloc, table, first, 7)?;
     let mut ids = Ids::fresh(alloc);
-    let next = table.next_due();
-    table.due_forks(alloc, 7, &mut ids, steps)?;
-    table.due_forks(alloc, 7, &mut ids, steps)?;
-    Ok(
-        next == Some(5)
-            && ids.as_slice() == [first, second].as_slice()
-            && table.next_due().is_none(),
-    )
+    for _ in 0..2 {
+        table.due_forks(alloc, 7, &mut ids, steps)?;
+    }
+    Ok(ids.as_slice() == forks && table.next_due().is_none())
 }
 
-/// Whether two forks have numbers of their own, are due once, and are entered by count.
-fn is_kept(alloc: Global, table: &mut ForkTable<u64>) -> Result<bool, Memory> {
-    let mut steps = counter();
-    let first = added(alloc, table, 8, 10, 0)?;
-    let second = added(alloc, table, -9, 20, 0)?;
-    let (Some(first), Some(second)) = (first, second) else {
-        return Ok(false);
-    };
-    Ok(
-        first != second
-            && is_found(alloc, table, -9, Some(second))?
-            && is_found(alloc, table, 9, None)?
-            && table.len() == 2
-            && are_given_once(alloc, table, first, second, &mut steps)?
-            && enter(table, second, &mut steps) == Some(20)
-            && enter(table, second, &mut steps) == Some(21)
-            && enter(table, first, &mut steps) == Some(10)
-            && is_counted(&steps, 3, 2),
-    )
-}
-
-/// Whether of the forks 10, 20 and 30, which begin at the moments 1, 2 and 3, the second ends at 2 if the first got an
-/// item at 3; and whether a fork that is added then has its number and comes last.
-fn ends_in_order(alloc: Global, table: &mut ForkTable<u64>) -> Result<bool, Memory> {
-    let mut steps = counter();
-    let first = added(alloc, table, 8, 10, 1)?;
-    let second = added(alloc, table, -9, 20, 2)?;
-    let third = added(alloc, table, 7, 30, 3)?;
-    let (Some(first), Some(second), Some(third)) = (first, second, third) else {
-        return Ok(false);
-    };
-    touch(table, first, 3);
-    table.drop_idle(2);
-    let ended = table.len() == 2
-        && is_found(alloc, table, -9, None)?
-        && is_found(alloc, table, 7, Some(third))?
-        && table.moment(first) == 3
-        && enter(table, third, &mut steps) == Some(30)
-        && !table.contains(second);
-    let fourth = added(alloc, table, -9, 40, 4)?;
-    Ok(ended && fourth == Some(second) && are_due(alloc, table, first, second, third)?)
-}
-
-/// Whether the forks of 8, -9 and 7 are known without their keys. The second ends, so that no event is known to be of
-/// it, and the third takes its place, so that it is known once it is noted there. A fork of -9 that is added then has
-/// the number of the second, and is known by it.
-fn are_known(alloc: Global, table: &mut ForkTable<u64>) -> Result<bool, Memory> {
-    let first = added(alloc, table, 8, 10, 3)?;
-    let second = added(alloc, table, -9, 20, 3)?;
-    let third = added(alloc, table, 7, 30, 3)?;
-    let known = is_known(alloc, table, 8, first)?
-        && is_known(alloc, table, -9, second)?
-        && is_known(alloc, table, 7, third)?
-        && is_known(alloc, table, 9, None)?;
-    let (Some(first), Some(third)) = (first, third) else {
-        return Ok(false);
-    };
-    touch(table, first, 4);
-    touch(table, third, 4);
-    table.drop_idle(3);
-    table.note(alloc, third);
-    let moved = is_known(alloc, table, 8, Some(first))?
-        && is_known(alloc, table, -9, None)?
-        && is_known(alloc, table, 7, Some(third))?;
-    let fourth = added(alloc, table, -9, 40, 5)?;
-    Ok(known && moved && fourth == second && is_known(alloc, table, -9, second)?)
-}
-
-/// Whether the forks are given at moment 7 in the order in which they were added.
+/// Whether forks that are due at these moments, of which the first one is 5, are given at moment 7 in the order of
+/// `forks`, in which they were added.
 fn are_due(
     alloc: Global,
     table: &mut ForkTable<u64>,
-    first: usize,
-    second: usize,
-    third: usize,
+    steps: &mut Steps<CountLedger>,
+    dues: &[(usize, u64)],
+    forks: &[usize],
 ) -> Result<bool, Memory> {
+    for row in dues {
+        set_due(alloc, table, row.0, row.1)?;
+    }
+    Ok(table.next_due() == Some(5) && are_given_once(alloc, table, steps, forks)?)
+}
+
+/// Whether the forks with the values 10 and 20 under the keys 8 and -9 are found, due once, and entered by count.
+fn are_kept(alloc: Global, table: &mut ForkTable<u64>, first: usize, second: usize) -> bool {
     let mut steps = counter();
-    set_due(alloc, table, second, 5)?;
-    set_due(alloc, table, third, 7)?;
-    set_due(alloc, table, first, 6)?;
-    let mut ids = Ids::fresh(alloc);
-    let next = table.next_due();
-    table.due_forks(alloc, 7, &mut ids, &mut steps)?;
-    Ok(
-        next == Some(5)
-            && ids.as_slice() == [first, third, second].as_slice()
-            && table.next_due().is_none()
-            && is_counted(&steps, 0, 3),
-    )
+    let dues = [(second, 5), (first, 7)];
+    first != second
+        && is_found(alloc, table, -9, Some(second))
+        && is_found(alloc, table, 9, None)
+        && table.len() == 2
+        && matches!(
+            are_due(alloc, table, &mut steps, &dues, &[first, second]),
+            Ok(true)
+        )
+        && enter(table, second, &mut steps) == Some(20)
+        && enter(table, second, &mut steps) == Some(21)
+        && enter(table, first, &mut steps) == Some(10)
+        && is_counted(&steps, 3, 2)
+}
+
+/// Whether two forks have numbers of their own, are due once, and are entered by count.
+fn is_kept(alloc: Global, table: &mut ForkTable<u64>) -> bool {
+    let first = added(alloc, table, 8, 10, 0);
+    let second = added(alloc, table, -9, 20, 0);
+    match (first, second) {
+        (Some(first), Some(second)) => are_kept(alloc, table, first, second),
+        _ => false,
+    }
 }
 
 #[test]
 fn a_due_fork_is_given_once_and_entered_by_count(rt: HostRuntime) {
     let mut table: ForkTable<u64> = ForkTable::fresh(rt.alloc());
-    assert!(rt; matches!(is_kept(rt.alloc(), &mut table), Ok(true)));
+    assert!(rt; is_kept(rt.alloc(), &mut table));
+}
+
+/// The numbers of three forks.
+#[derive(Clone, Copy)]
+struct ThreeForks {
+    first: usize,
+    second: usize,
+    third: usize,
+}
+
+/// Adds forks with the values 10, 20 and 30 under the keys 8, -9 and 7, which begin at these moments.
+fn three(alloc: Global, table: &mut ForkTable<u64>, moments: &[u64; 3]) -> Option<ThreeForks> {
+    let first = added(alloc, table, 8, 10, moments[0])?;
+    let second = added(alloc, table, -9, 20, moments[1])?;
+    let third = added(alloc, table, 7, 30, moments[2])?;
+    Some(ThreeForks {
+        first,
+        second,
+        third,
+    })
+}
+
+/// Whether the second of three forks ended, and the others did not.
+fn has_second_ended(alloc: Global, table: &mut ForkTable<u64>, forks: ThreeForks) -> bool {
+    table.len() == 2
+        && is_found(alloc, table, -9, None)
+        && is_found(alloc, table, 7, Some(forks.third))
+        && table.moment(forks.first) == 3
+        && enter(table, forks.third, &mut counter()) == Some(30)
+        && !table.contains(forks.second)
+}
+
+/// Whether the forks are given at moment 7 in the order in which they were added, where the second was added last.
+fn is_second_due_last(alloc: Global, table: &mut ForkTable<u64>, forks: ThreeForks) -> bool {
+    let mut steps = counter();
+    let dues = [(forks.second, 5), (forks.third, 7), (forks.first, 6)];
+    let order = [forks.first, forks.third, forks.second];
+    matches!(are_due(alloc, table, &mut steps, &dues, &order), Ok(true)) && is_counted(&steps, 0, 3)
+}
+
+/// Whether of three forks, which begin at the moments 1, 2 and 3, the second ends at 2 if the first got an item at 3;
+/// and whether a fork that is added then has its number and comes last.
+fn ends_in_order(alloc: Global, table: &mut ForkTable<u64>) -> bool {
+    let Some(forks) = three(alloc, table, &[1, 2, 3]) else {
+        return false;
+    };
+    touch(table, forks.first, 3);
+    table.drop_idle(2);
+    has_second_ended(alloc, table, forks)
+        && added(alloc, table, -9, 40, 4) == Some(forks.second)
+        && is_second_due_last(alloc, table, forks)
 }
 
 #[test]
 fn a_fork_ends_and_its_number_is_used_again(rt: HostRuntime) {
     let mut table: ForkTable<u64> = ForkTable::fresh(rt.alloc());
-    assert!(rt; matches!(ends_in_order(rt.alloc(), &mut table), Ok(true)));
+    assert!(rt; ends_in_order(rt.alloc(), &mut table));
+}
+
+/// Whether three forks are known without their keys, and no other one is.
+fn are_all_known(alloc: Global, table: &ForkTable<u64>, forks: ThreeForks) -> bool {
+    let rows = [
+        (8, Some(forks.first)),
+        (-9, Some(forks.second)),
+        (7, Some(forks.third)),
+        (9, None),
+    ];
+    matches!(are_known_as(alloc, table, &rows), Ok(true))
+}
+
+/// Whether the second fork ends, so that no event is known to be of it, and the third takes its place, so that it is
+/// known once it is noted there.
+fn is_third_moved(alloc: Global, table: &mut ForkTable<u64>, forks: ThreeForks) -> bool {
+    touch(table, forks.first, 4);
+    touch(table, forks.third, 4);
+    table.drop_idle(3);
+    table.note(alloc, forks.third);
+    let rows = [(8, Some(forks.first)), (-9, None), (7, Some(forks.third))];
+    matches!(are_known_as(alloc, table, &rows), Ok(true))
+}
+
+/// Whether three forks are known until they end, and a fork that is added then has the number of the one that ended,
+/// and is known by it.
+fn are_known(alloc: Global, table: &mut ForkTable<u64>) -> bool {
+    let Some(forks) = three(alloc, table, &[3, 3, 3]) else {
+        return false;
+    };
+    are_all_known(alloc, table, forks)
+        && is_third_moved(alloc, table, forks)
+        && added(alloc, table, -9, 40, 5) == Some(forks.second)
+        && matches!(
+            are_known_as(alloc, table, &[(-9, Some(forks.second))]),
+            Ok(true)
+        )
 }
 
 #[test]
 fn a_fork_is_known_by_an_event_until_it_ends(rt: HostRuntime) {
     let mut table: ForkTable<u64> = ForkTable::fresh(rt.alloc());
-    assert!(rt; matches!(are_known(rt.alloc(), &mut table), Ok(true)));
+    assert!(rt; are_known(rt.alloc(), &mut table));
 }
