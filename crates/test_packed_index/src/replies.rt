@@ -6,7 +6,6 @@ use live_index::PackedIndex;
 use packed_event::{PackedEvent, PackedRef};
 use pred_eval::{Pred, RegexPatterns, Rule};
 use std::alloc::Global;
-use std::test::Fail;
 use step_count::{NoLedger, Steps};
 use stored_event::{Stored, found_len, write_lent};
 
@@ -63,19 +62,31 @@ const ROWS: &[Row] = &[
 
 /// Writes the event of the bytes.
 fn write(alloc: Global, index: &mut PackedIndex, bytes: &[u8], owned: bool) -> Result<(), Memory> {
-    let Some(event) = PackedRef::of(bytes) else {
-        return Err(Memory);
-    };
-    if owned {
-        index.write(alloc, unpacked(alloc, &event)?)
-    } else {
-        index.put_packed(alloc, &event)
+    match PackedRef::of(bytes) {
+        Some(event) if owned => write_unpacked(alloc, index, &event),
+        Some(event) => index.put_packed(alloc, &event),
+        None => Err(Memory),
+    }
+}
+
+/// Writes the event as one that owns its parts.
+fn write_unpacked(
+    alloc: Global,
+    index: &mut PackedIndex,
+    event: &PackedRef<'_>,
+) -> Result<(), Memory> {
+    match unpacked(alloc, event) {
+        Ok(event) => index.write(alloc, event),
+        Err(Memory) => Err(Memory),
     }
 }
 
 /// The event, which owns its parts.
 fn unpacked(alloc: Global, event: &PackedRef<'_>) -> Result<Event, Memory> {
-    PackedEvent::copy_of(alloc, event)?.unpack(alloc)
+    match PackedEvent::copy_of(alloc, event) {
+        Ok(event) => event.unpack(alloc),
+        Err(Memory) => Err(Memory),
+    }
 }
 
 /// The predicate that every event meets.
@@ -88,81 +99,89 @@ fn always(alloc: Global) -> Result<Pred, Memory>
     }
 }
 
-/// How long the index counts the reply with all events.
-fn counted_len(alloc: Global, index: &mut PackedIndex) -> Result<usize, Memory> {
-    let mut pred = always(alloc)?;
-    index.all_len(alloc, &mut pred, &mut Steps::fresh(NoLedger))
-}
-
-/// Whether the reply with these events is written so.
-fn is_written(
-    alloc: Global,
-    events: &[&Stored<PackedEvent>],
-    wanted: &[u8],
-) -> Result<bool, Memory> {
-    let mut reply = Blob::fresh(alloc);
-    write_lent(alloc, events, &mut reply)?;
-    Ok(reply.as_slice() == wanted)
+/// Whether the length is this one.
+fn is_len(len: Result<usize, Memory>, wanted: usize) -> bool {
+    match len {
+        Ok(len) => len == wanted,
+        Err(Memory) => false,
+    }
 }
 
 /// Whether the reply with these events is this one, and its length is known.
-fn is_reply_of(
-    alloc: Global,
-    events: &[&Stored<PackedEvent>],
-    wanted: &[u8],
-) -> Result<bool, Memory> {
-    let len = found_len(events)?;
-    let written = is_written(alloc, events, wanted)?;
-    Ok(written && len == wanted.len())
+fn is_reply_of(alloc: Global, events: &[&Stored<PackedEvent>], wanted: &[u8]) -> bool {
+    let mut reply = Blob::fresh(alloc);
+    let is_written = write_lent(alloc, events, &mut reply).is_ok();
+    is_written && reply.as_slice() == wanted && is_len(found_len(events), wanted.len())
 }
 
-/// Whether the reply with all events that are found is this one.
-fn is_found(alloc: Global, index: &PackedIndex, wanted: &[u8]) -> Result<bool, Memory> {
-    let mut pred = always(alloc)?;
+/// Whether the reply with the events that the predicate finds is this one.
+fn is_found(alloc: Global, index: &PackedIndex, pred: &mut Pred, wanted: &[u8]) -> bool {
     let mut found = Vec::new(alloc);
-    index.find(alloc, &mut pred, &mut found, &mut Steps::fresh(NoLedger))?;
-    is_reply_of(alloc, found.as_slice(), wanted)
+    match index.find(alloc, pred, &mut found, &mut Steps::fresh(NoLedger)) {
+        Ok(()) => is_reply_of(alloc, found.as_slice(), wanted),
+        Err(Memory) => false,
+    }
 }
 
 /// Whether the reply with all events is this one, and its length is known.
-fn is_replied(alloc: Global, index: &mut PackedIndex, wanted: &[u8]) -> Result<bool, Memory> {
-    let len = counted_len(alloc, index)?;
-    let found = is_found(alloc, index, wanted)?;
-    Ok(found && len == wanted.len())
+fn is_replied(alloc: Global, index: &mut PackedIndex, pred: &mut Pred, wanted: &[u8]) -> bool
+    requires { pred.old ≡ Always }
+{
+    let len = index.all_len(alloc, pred, &mut Steps::fresh(NoLedger));
+    is_len(len, wanted.len()) && is_found(alloc, index, pred, wanted)
+}
+
+/// Whether a search copies this many events.
+fn is_copied(alloc: Global, index: &mut PackedIndex, pred: &mut Pred, wanted: usize) -> bool {
+    let mut copied = Events::fresh(alloc);
+    let mut steps = Steps::fresh(NoLedger);
+    let is_searched = index.search(alloc, pred, &mut copied, &mut steps).is_ok();
+    is_searched && copied.as_slice().len() == wanted
+}
+
+/// What is wanted of an index that is asked for all events.
+#[derive(Clone, Copy)]
+enum Wanted<'a> {
+    /// The reply is this one, and its length is known.
+    Reply(&'a [u8]),
+    /// A search copies this many events.
+    Copies(usize),
+}
+
+/// Whether the index gives what is wanted, if it is asked with this predicate.
+fn gives_by(alloc: Global, index: &mut PackedIndex, pred: &mut Pred, wanted: Wanted) -> bool
+    requires { pred.old ≡ Always }
+{
+    match wanted {
+        Wanted::Reply(reply) => is_replied(alloc, index, pred, reply),
+        Wanted::Copies(count) => is_copied(alloc, index, pred, count),
+    }
+}
+
+/// Whether the index gives what is wanted.
+fn gives(alloc: Global, index: &mut PackedIndex, wanted: Wanted) -> bool {
+    match always(alloc) {
+        Ok(mut pred) => gives_by(alloc, index, &mut pred, wanted),
+        Err(Memory) => false,
+    }
 }
 
 /// Whether the reply is as wanted after each event.
-fn are_replied(alloc: Global) -> Result<bool, Memory> {
-    let mut index = PackedIndex::fresh(alloc);
+fn are_replied(alloc: Global, index: &mut PackedIndex) -> bool {
     for row in ROWS {
-        write(alloc, &mut index, row.0, row.1)?;
-        if !is_replied(alloc, &mut index, row.2)? {
-            return Ok(false);
+        let is_written = write(alloc, index, row.0, row.1).is_ok();
+        if !is_written || !gives(alloc, index, Wanted::Reply(row.2)) {
+            return false;
         }
     }
-    Ok(true)
+    true
 }
 
 #[test]
-fn events_are_replied_as_they_were_written(rt: HostRuntime) -> Result<(), Fail> {
-    let replied = are_replied(rt.alloc())?;
+fn events_are_replied_as_they_were_written(rt: HostRuntime) {
+    let mut index = PackedIndex::fresh(rt.alloc());
+    let replied = are_replied(rt.alloc(), &mut index);
     assert!(rt; replied);
-    Ok(())
-}
-
-/// How many events a search copies.
-fn copied(alloc: Global, index: &mut PackedIndex) -> Result<usize, Memory> {
-    let mut pred = always(alloc)?;
-    let mut copied = Events::fresh(alloc);
-    index.search(alloc, &mut pred, &mut copied, &mut Steps::fresh(NoLedger))?;
-    Ok(copied.as_slice().len())
-}
-
-/// How many events have expired at the second 100, and are removed.
-fn expired(alloc: Global, index: &mut PackedIndex) -> Result<usize, Memory> {
-    let mut expired = Events::fresh(alloc);
-    index.reap(alloc, 100, &mut expired, &mut Steps::fresh(NoLedger))?;
-    Ok(expired.as_slice().len())
 }
 
 /// A packed event, and one that owns its parts.
@@ -171,25 +190,29 @@ const BOTH: &[(&[u8], bool)] = &[
     (b"\x08\x01\x1a\x01t\x22\x01a", true),
 ];
 
-fn write_both(alloc: Global, index: &mut PackedIndex) -> Result<(), Memory> {
+/// Whether both events were written.
+fn are_written(alloc: Global, index: &mut PackedIndex) -> bool {
     for (bytes, owned) in BOTH {
-        write(alloc, index, bytes, *owned)?;
+        if write(alloc, index, bytes, *owned).is_err() {
+            return false;
+        }
     }
-    Ok(())
+    true
 }
 
-/// How many events are copied by a search, and are then expired.
-fn copied_and_expired(alloc: Global) -> Result<(usize, usize), Memory> {
-    let mut index = PackedIndex::fresh(alloc);
-    write_both(alloc, &mut index)?;
-    let copied = copied(alloc, &mut index)?;
-    let expired = expired(alloc, &mut index)?;
-    Ok((copied, expired))
+/// Whether this many events have expired at the second 100, and are removed.
+fn is_reaped(alloc: Global, index: &mut PackedIndex, wanted: usize) -> bool {
+    let mut expired = Events::fresh(alloc);
+    let mut steps = Steps::fresh(NoLedger);
+    let is_reaped = index.reap(alloc, 100, &mut expired, &mut steps).is_ok();
+    is_reaped && expired.as_slice().len() == wanted
 }
 
 #[test]
-fn packed_events_are_copied_and_expire(rt: HostRuntime) -> Result<(), Fail> {
-    let counts = copied_and_expired(rt.alloc())?;
-    assert!(rt; counts == (2, 2));
-    Ok(())
+fn packed_events_are_copied_and_expire(rt: HostRuntime) {
+    let mut index = PackedIndex::fresh(rt.alloc());
+    let are_written = are_written(rt.alloc(), &mut index);
+    let are_copied = are_written && gives(rt.alloc(), &mut index, Wanted::Copies(2));
+    let are_expired = are_copied && is_reaped(rt.alloc(), &mut index, 2);
+    assert!(rt; are_expired);
 }
