@@ -1,13 +1,13 @@
 use ev_types::{Blob, Event, Events, Memory, Text};
 use riemann_msg::{Msg, QueryPart, found_len, msg_len, write_found, write_msg};
 use std::alloc::Global;
-use std::test::Fail;
 
 /// Whether the message is written so, and counted so.
 fn is_written(alloc: Global, msg: &Msg, wanted: &[u8]) -> Result<bool, Memory> {
+    let len = msg_len(msg)?;
     let mut out = Blob::fresh(alloc);
     write_msg(alloc, msg, &mut out)?;
-    Ok(out.as_slice() == wanted && msg_len(msg)? == wanted.len())
+    Ok(out.as_slice() == wanted && len == wanted.len())
 }
 
 /// A reply of one event that holds nothing but its time.
@@ -43,27 +43,31 @@ const WRITTEN: [&[u8]; 4] = [
     b"\x10\x01\x32\x02\x08\x01",
 ];
 
-/// Whether a reply that has the event of the time 1 twice is written so from where it lies, and counted so.
-fn is_lent(alloc: Global, wanted: &[u8]) -> Result<bool, Memory> {
-    let event = Event::at(alloc, 1);
-    let events = [&event, &event];
+/// Whether a reply that has the event twice is written so from where it lies, and counted so.
+fn is_lent(alloc: Global, event: &Event, wanted: &[u8]) -> Result<bool, Memory> {
+    let events = [event, event];
+    let len = found_len(&events)?;
     let mut out = Blob::fresh(alloc);
     write_found(alloc, &events, &mut out)?;
-    Ok(out.as_slice() == wanted && found_len(&events)? == wanted.len())
+    Ok(out.as_slice() == wanted && len == wanted.len())
 }
 
 #[test]
-fn events_are_written_from_where_they_lie(rt: HostRuntime) -> Result<(), Fail> {
+fn events_are_written_from_where_they_lie(rt: HostRuntime) {
+    let event = Event::at(rt.alloc(), 1);
     let wanted = b"\x10\x01\x32\x02\x08\x01\x32\x02\x08\x01";
-    assert!(rt; is_lent(rt.alloc(), wanted)?);
-    Ok(())
+    assert!(rt; matches!(is_lent(rt.alloc(), &event, wanted), Ok(true)));
+}
+
+/// Whether the reply of this number is written so, and counted so.
+fn is_reply_written(alloc: Global, number: usize, wanted: &[u8]) -> Result<bool, Memory> {
+    let msg = reply(alloc, number)?;
+    is_written(alloc, &msg, wanted)
 }
 
 #[test]
-fn replies_are_written(rt: HostRuntime) -> Result<(), Fail> {
+fn replies_are_written(rt: HostRuntime) {
     for (number, wanted) in WRITTEN.iter().enumerate() {
-        let msg = reply(rt.alloc(), number)?;
-        assert!(rt; is_written(rt.alloc(), &msg, wanted)?);
+        assert!(rt; matches!(is_reply_written(rt.alloc(), number, wanted), Ok(true)));
     }
-    Ok(())
 }
