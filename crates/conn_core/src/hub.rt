@@ -1,9 +1,9 @@
-ghost use Rattle.std.specs.Prelude.{◌≡◌, ◌≢◌, ◌+◌, ◌-◌, ◌^◌, ◌≤◌, ℕ, [], List, replicate, IfOk, OnOk};
+ghost use Rattle.std.specs.Prelude.{◌≡◌, ◌≢◌, ◌-◌, ℕ, [], List, replicate, IfOk, OnOk};
 ghost use Rattle.conn_core.specs.Hub.{core_of, wants_in, Follows};
 ghost use Rattle.conn_core.specs.Known.{Answered, AreUnclosed, IsOpenedBy};
 ghost use Rattle.conn_core.specs.Occurring.{OccursFrom};
 ghost use Rattle.conn_core.specs.Turning.{TurnsFrom};
-ghost use Rattle.ev_types.specs.Clock.{next_moment, seconds_per_turn_limit};
+ghost use Rattle.ev_types.specs.Clock.{next_moment};
 ghost use Rattle.hub_link.specs.event_core.Core.{Represents, config_of, now_of};
 ghost use Rattle.hub_link.specs.Added.{Added};
 ghost use Rattle.hub_link.specs.msg_replies.Arriving.{Arrives, reported};
@@ -13,9 +13,10 @@ ghost use Rattle.stream_meaning.specs.Arrivals.{Arrival, Elapsed};
 use crate::lines::write_lines;
 use crate::links::{change, settle};
 use crate::stop::Stop;
-use ev_types::{LATEST_MOMENT, Memory, Notices, SECONDS_PER_TURN};
+use ev_types::{Memory, Notices};
 use hub_link::HubLink;
 use hub_link::event_core::Core;
+use hub_link::hub_meaning::next_moment;
 use hub_link::msg_replies::Spare;
 use link_table::LinkTable;
 use ports::{Links, Sink, Turn, Wants, What};
@@ -183,16 +184,4 @@ fn pass<G: Ledger>(
     let to = next_moment(core.now(), secs);
     core.advance(alloc, to, notices, steps)?;
     Ok(())
-}
-
-/// The moment of a turn that reads the clock at `secs`. The clock never goes back, and goes on by an hour a turn at
-/// most.
-fn next_moment(now: u64, secs: u64) -> u64
-    requires { now ≤ 2 ^ 40 }
-    ensures moment { result ≡ next_moment now secs }
-    ensures from { now ≤ result }
-    ensures hour { result ≤ now + seconds_per_turn_limit }
-    ensures bound { result ≤ 2 ^ 40 }
-{
-    now.max(secs.min((now + SECONDS_PER_TURN).min(LATEST_MOMENT)))
 }

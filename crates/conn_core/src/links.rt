@@ -7,12 +7,10 @@ ghost use Rattle.link_table.specs.Kept.{is_newer, IsAt};
 
 use ev_types::Memory;
 use hub_link::HubLink;
+use hub_link::hub_meaning::may_connect;
 use link_table::LinkTable;
 use ports::{Links, What};
 use std::alloc::Global;
-
-/// How many links are connected at most.
-const CONNECTED_LIMIT: usize = 256;
 
 /// What happened on a link, where nothing was read: then the link is sent what is unsent, and closed if it is over.
 pub(crate) fn change<L: Links>(
@@ -52,7 +50,7 @@ fn open<L: Links>(
     if !table.is_newer(number) {
         return Ok(());
     }
-    if table.len() >= CONNECTED_LIMIT {
+    if !may_connect(table.len()) {
         table.note(number);
         links.close(number);
         return Ok(());

@@ -29,7 +29,7 @@ use Rattle.hub_link.specs.declared.link.HubLink.{HubLink}
 use Rattle.hub_link.specs.Answering.{Answered, AnswersFrames, IsTalk}
 use Rattle.hub_link.specs.Hearing.{HearsPiece, IsAt, KeepsRest, read_talk, talk_after}
 use Rattle.hub_link.specs.HubLink.{RepresentsChanged, RepresentsLink}
-use Rattle.hub_link.specs.Sending.{is_over_as}
+use Rattle.hub_link.specs.hub_meaning.Links.{is_over_as}
 use Rattle.hub_link.proofs.HearLaws.{none_refused, unsent_with_reply, within_with_reply}
 use Rattle.hub_link.proofs.SendLaws.{closes}
 

@@ -1,13 +1,11 @@
 -- What sends to one link do.
-use Rattle.std.specs.Prelude.{◌≡◌, ℕ, Bool, true, false, not, ◌==◌, ◌&&◌, ◌||◌, if◌then◌else◌, nat_lt, List, [], ◌∷◌}
+use Rattle.std.specs.Prelude.{◌≡◌, ℕ, Bool, not, ◌&&◌, ◌||◌, if◌then◌else◌, nat_lt, List, [], ◌∷◌}
 use Rattle.std.specs.Prelude.{length, Some}
 use Rattle.msg_replies.specs.event_core.Core.{CoreConfig}
 use Rattle.ports.specs.declared.entry.Entry.{Entry}
 use Rattle.ports.specs.declared.entry.Entry.TheVariants.{Listen, Next, Send, Close}
 use Rattle.msg_replies.specs.hub_meaning.Legal.{IsLegalFrom, IsSettled, MayClose}
 use Rattle.msg_replies.specs.hub_meaning.Links.{Link, changed, find_link, is_open_stage, is_read_closed_stage, sent}
-use Rattle.msg_replies.specs.hub_meaning.declared.stage.Stage.{Stage}
-use Rattle.msg_replies.specs.hub_meaning.declared.stage.Stage.TheVariants.{Open, ReadClosed, Closing, Closed}
 use Rattle.msg_replies.specs.hub_meaning.Runs.{RunState, plain, state_from, with_links}
 use Rattle.hub_link.specs.declared.link.HubLink.{HubLink}
 use Rattle.hub_link.specs.HubLink.{RepresentsLink, number_of}
@@ -54,10 +52,3 @@ can_send link =
 -- the bytes that there are to send
 abbrev pub sendable : HubLink → ℕ
 sendable link = if can_send link then length link.unsent else 0
-
--- whether a link of this stage is to be closed while `count` bytes are unsent
-abbrev pub is_over_as : Stage → ℕ → Bool
-is_over_as Open count = false
-is_over_as ReadClosed count = count == 0
-is_over_as Closing count = true
-is_over_as Closed count = false

@@ -9,7 +9,7 @@ ghost use Rattle.hub_link.specs.Added.{Added};
 ghost use Rattle.hub_link.specs.Answering.{AnswersFrames};
 ghost use Rattle.hub_link.specs.Hearing.{HearsPiece, KeepsRest};
 ghost use Rattle.hub_link.specs.HubLink.{RepresentsChanged, RepresentsLink, number_of};
-ghost use Rattle.hub_link.specs.Sending.{IsSent, Sends, can_send, is_over_as, sendable};
+ghost use Rattle.hub_link.specs.Sending.{IsSent, Sends, can_send, sendable};
 
 use crate::frames::{answer_frames, missing_bytes};
 use crate::unsent::Unsent;
@@ -295,7 +295,7 @@ impl HubLink {
         ensures { (meant : Link) → RepresentsLink self.now meant →
             IsTrue result ↔ MayClose meant }
     {
-        is_over_as(self.stage, self.unsent.len())
+        self.stage.is_over(self.unsent.len())
     }
 
     /// Sends what is unsent, until all was taken, or the link takes nothing now, or the send failed.
@@ -314,7 +314,7 @@ impl HubLink {
     fn can_send(&self) -> bool
         ensures { result ≡ can_send self.now }
     {
-        self.is_connected() && !self.blocked && self.unsent.len() > 0
+        self.stage.can_send(self.blocked, self.unsent.len())
     }
 
     /// Sends what comes next, once.
@@ -363,16 +363,5 @@ fn memory_left(answer: SendAnswer) -> Result<(), Memory>
     match answer {
         SendAnswer::Memory => Err(Memory),
         SendAnswer::Took { .. } | SendAnswer::Later | SendAnswer::Failed => Ok(()),
-    }
-}
-
-/// Whether a link of this stage is to be closed while `unsent` bytes are unsent.
-fn is_over_as(stage: Stage, unsent: usize) -> bool
-    ensures { result ≡ is_over_as stage unsent }
-{
-    match stage {
-        Stage::ReadClosed => unsent == 0,
-        Stage::Closing => true,
-        Stage::Open | Stage::Closed => false,
     }
 }

@@ -60,6 +60,13 @@ changed number change links = map (λ link. if has_number number link then chang
 abbrev pub is_above : ℕ → List Link → Bool
 is_above number links = list_all (λ link. nat_lt link.number number) links
 
+-- whether a link of this stage is to be closed while `count` bytes are unsent
+abbrev pub is_over_as : Stage → ℕ → Bool
+is_over_as Open count = false
+is_over_as ReadClosed count = count == 0
+is_over_as Closing count = true
+is_over_as Closed count = false
+
 -- ---- how a link begins, and what changes it
 
 -- most links that are connected at once

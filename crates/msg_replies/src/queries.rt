@@ -1,4 +1,4 @@
-ghost use Rattle.std.specs.Prelude.{◌≡◌, ◌≢◌, ◌^◌, ◌<◌, ◌++◌, [], length, nat_le, true, false, OnOk, IfOk, Some, None, List};
+ghost use Rattle.std.specs.Prelude.{◌≡◌, ◌≢◌, ◌^◌, ◌<◌, ◌++◌, [], length, true, false, OnOk, IfOk, Some, None, List};
 ghost use Rattle.std.specs.String.{string_bytes};
 ghost use Rattle.event_core.specs.Core.{Represents, config_of, state_by};
 ghost use Rattle.hub_meaning.specs.Messages.{query_text, rule_read};
@@ -15,6 +15,7 @@ use crate::replies::{accept, refuse};
 use ev_types::{Blob, Memory};
 use event_core::Core;
 use framing::BODY_LIMIT;
+use hub_meaning::{fits, is_busy};
 use packed_event::PackedEvent;
 use pred_eval::{BuildFault, Patterns, Pred, Rule};
 use query_lang::{MAX_BYTES, QueryFault, read_query};
@@ -66,7 +67,7 @@ fn answer_part<P: Patterns, G: Ledger>(
         (P.report patterns.old) (P.report patterns.new) replies.old replies.new
         (λ log refusal. answer_to_query log unsent refusal (Some query.now)) result }
 {
-    if unsent >= BODY_LIMIT as usize {
+    if is_busy(unsent) {
         refuse_busy(alloc, unsent, replies)
     } else {
         answer_text(alloc, text_of(query), core, patterns, replies, steps)
@@ -284,13 +285,6 @@ fn put_lent(
     replies.append(alloc, &length.to_be_bytes())?;
     write_lent(alloc, events, replies)?;
     Ok(())
-}
-
-/// Whether a reply of `size` bytes may be sent.
-fn fits(size: usize) -> bool
-    ensures { result ≡ nat_le size BODY_LIMIT }
-{
-    size <= BODY_LIMIT as usize
 }
 
 /// Appends a reply that the one with the found events would have `size` bytes, which are too many.
