@@ -1,7 +1,7 @@
 use riemann_msg::MsgWhy;
 
 /// What a turn of a client comes to.
-#[derive(Clone, Copy, Debug, PartialEq, Eq)]
+#[derive(Clone, Copy)]
 pub enum Progress {
     /// Each reply so far was accepted, and requests are left without one.
     More,

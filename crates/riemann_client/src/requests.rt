@@ -120,7 +120,7 @@ pub fn has_request(frames: &[u8]) -> bool
 }
 
 /// What frames that are sent come to.
-#[derive(Clone, Copy, Debug, PartialEq, Eq)]
+#[derive(Clone, Copy)]
 pub struct Counted {
     /// How many requests there are.
     pub requests: usize,
