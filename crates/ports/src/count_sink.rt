@@ -4,7 +4,7 @@ ghost use Rattle.ports.specs.Counts.{greatest};
 use crate::sink::{Failed, Sink};
 
 /// A sink that counts the puts, and keeps nothing. It never fails.
-#[derive(Clone, Copy, Debug, PartialEq, Eq)]
+#[derive(Clone, Copy)]
 pub struct CountSink {
     pub puts: u64,
 }

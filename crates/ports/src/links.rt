@@ -48,7 +48,7 @@ pub trait Links {
 }
 
 /// What [`Links::listen`] answers.
-#[derive(Clone, Copy, Debug, PartialEq, Eq)]
+#[derive(Clone, Copy, PartialEq, Eq)]
 pub enum ListenAnswer {
     /// The first reading of the clock, in seconds since 1970.
     Ready { secs: u64 },
@@ -59,7 +59,7 @@ pub enum ListenAnswer {
 }
 
 /// A reading of the clock, and what happened, if something did.
-#[derive(Clone, Copy, Debug, PartialEq, Eq)]
+#[derive(Clone, Copy, PartialEq, Eq)]
 pub struct Turn {
     /// The reading of the clock, in seconds since 1970.
     pub secs: u64,
@@ -90,7 +90,7 @@ pub enum What {
 }
 
 /// What [`Links::send`] answers.
-#[derive(Clone, Copy, Debug, PartialEq, Eq)]
+#[derive(Clone, Copy, PartialEq, Eq)]
 pub enum SendAnswer {
     /// The first `count` bytes were taken.
     Took { count: usize },
@@ -103,7 +103,7 @@ pub enum SendAnswer {
 }
 
 /// What the server waits for on one link.
-#[derive(Clone, Copy, Debug, PartialEq, Eq)]
+#[derive(Clone, Copy)]
 pub struct Want {
     pub link: u64,
     /// Bytes to read.

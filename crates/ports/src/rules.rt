@@ -12,7 +12,7 @@ use std::alloc::Global;
 use std::collections::HashMap;
 
 /// How a link answers its sends.
-#[derive(Clone, Copy, Debug, PartialEq, Eq)]
+#[derive(Clone, Copy)]
 pub struct SendRule {
     /// The number of bytes that it still takes; without one it takes all.
     pub left: Option<u64>,
