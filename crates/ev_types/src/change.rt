@@ -30,10 +30,10 @@ impl Event {
         ensures err { OnErr result (self.new ≡ self.old) }
     {
         match field {
-            Field::Host => self.host = copied_text(alloc, value)?,
-            Field::Service => self.service = copied_text(alloc, value)?,
-            Field::State => self.state = copied_text(alloc, value)?,
-            Field::Description => self.description = copied_text(alloc, value)?,
+            Field::Host => return set_text(alloc, &mut self.host, value),
+            Field::Service => return set_text(alloc, &mut self.service, value),
+            Field::State => return set_text(alloc, &mut self.state, value),
+            Field::Description => return set_text(alloc, &mut self.description, value),
             Field::Time => {
                 self.time = number(value).unwrap_or(self.time);
                 self.time_micros = None;
@@ -45,7 +45,7 @@ impl Event {
                 self.raw_f = None;
             }
             Field::Attribute(key) => {
-                self.attributes = set_attribute(alloc, &self.attributes, key, value)?;
+                return set_attribute(alloc, &mut self.attributes, key, value);
             }
         }
         Ok(())
@@ -96,6 +96,15 @@ fn fits_ttl(value: &Value) -> bool
     }
 }
 
+// Sets the text to that of the value.
+fn set_text(alloc: Global, text: &mut Option<Text>, value: &Value) -> Result<(), Memory>
+    ensures ok { OnOk result (text.new ≡ text_of value.now) }
+    ensures err { OnErr result (text.new ≡ text.old) }
+{
+    *text = copied_text(alloc, value)?;
+    Ok(())
+}
+
 fn copied_text(alloc: Global, value: &Value) -> Result<Option<Text>, Memory>
     ensures { IfOk result (λ text. text ≡ text_of value.now) }
 {
@@ -124,35 +133,54 @@ fn seconds(value: &Value) -> Option<u32>
     }
 }
 
-// The attributes of other keys, and after them the one that holds the value's text.
+// Leaves the attributes of other keys, and after them the one that holds the value's text.
 fn set_attribute(
     alloc: Global,
-    attributes: &Attrs,
+    attributes: &mut Attrs,
     key: &Text,
     value: &Value,
-) -> Result<Attrs, Memory>
-    ensures { IfOk result (λ set. set ≡ other_attributes key.now attributes.now
+) -> Result<(), Memory>
+    ensures ok { OnOk result (attributes.new ≡ other_attributes key.now attributes.old
         ++ attribute_of key.now (text_of value.now)) }
+    ensures err { OnErr result (attributes.new ≡ attributes.old) }
 {
-    let mut set = copied_others(alloc, attributes.as_slice(), key)?;
-    if let Value::Text(text) = value {
-        let attribute = Attr {
-            key: key.copy(alloc)?,
-            value: Some(text.copy(alloc)?),
-        };
-        set.push(alloc, attribute)?;
-    }
-    Ok(set)
+    let mut set = Attrs::fresh(alloc);
+    add_set(alloc, &mut set, attributes.as_slice(), key, value)?;
+    *attributes = set;
+    Ok(())
 }
 
-fn copied_others(alloc: Global, attributes: &[Attr], key: &Text) -> Result<Attrs, Memory>
-    ensures { IfOk result (λ others. others ≡ other_attributes key.now attributes.now) }
+// Adds the attributes of other keys, and after them the one that holds the value's text.
+fn add_set(
+    alloc: Global,
+    set: &mut Attrs,
+    attributes: &[Attr],
+    key: &Text,
+    value: &Value,
+) -> Result<(), Memory>
+    ensures { OnOk result (set.new ≡ set.old ++ other_attributes key.now attributes.now
+        ++ attribute_of key.now (text_of value.now)) }
 {
-    let mut others = Attrs::fresh(alloc);
+    add_others(alloc, set, attributes, key)?;
+    if let Value::Text(text) = value {
+        set.push(alloc, Attr::of(alloc, key, text)?)?;
+    }
+    Ok(())
+}
+
+// Adds the attributes of other keys.
+fn add_others(
+    alloc: Global,
+    others: &mut Attrs,
+    attributes: &[Attr],
+    key: &Text,
+) -> Result<(), Memory>
+    ensures { OnOk result (others.new ≡ others.old ++ other_attributes key.now attributes.now) }
+{
     for attribute in attributes {
         if attribute.key != *key {
             others.push(alloc, attribute.copy(alloc)?)?;
         }
     }
-    Ok(others)
+    Ok(())
 }

@@ -1,4 +1,4 @@
-ghost use Rattle.std.specs.Prelude.{◌≡◌, ◌≤◌, ◌^◌, IfOk};
+ghost use Rattle.std.specs.Prelude.{◌≡◌, ◌≤◌, ◌^◌, ◌++◌, IfOk, OnOk, Some};
 ghost use Rattle.ev_types.specs.Expiry.{ends_key, is_late, is_expired};
 ghost use Rattle.ev_types.specs.Set.{event_at, has_text};
 
@@ -90,20 +90,28 @@ impl Event {
     pub fn copy(&self, alloc: Global) -> Result<Event, Memory>
         ensures { IfOk result (λ event. event ≡ self.now) }
     {
-        Ok(Event {
-            host: copy_option(alloc, &self.host)?,
-            service: copy_option(alloc, &self.service)?,
-            state: copy_option(alloc, &self.state)?,
-            description: copy_option(alloc, &self.description)?,
-            tags: copy_tags(alloc, &self.tags)?,
-            time: self.time,
-            time_micros: self.time_micros,
-            ttl: self.ttl,
-            metric: self.metric,
-            raw_d: self.raw_d,
-            raw_f: self.raw_f,
-            attributes: copy_attributes(alloc, &self.attributes)?,
-        })
+        let mut copied = Event::at(alloc, self.time);
+        self.copy_into(alloc, &mut copied)?;
+        Ok(copied)
+    }
+
+    // Makes an event of the same time equal to this one.
+    fn copy_into(&self, alloc: Global, copied: &mut Event) -> Result<(), Memory>
+        requires { copied.old.time ≡ self.now.time }
+        ensures { OnOk result (copied.new ≡ self.now) }
+    {
+        copied.time_micros = self.time_micros;
+        copied.ttl = self.ttl;
+        copied.metric = self.metric;
+        copied.raw_d = self.raw_d;
+        copied.raw_f = self.raw_f;
+        copied.host = copy_option(alloc, &self.host)?;
+        copied.service = copy_option(alloc, &self.service)?;
+        copied.state = copy_option(alloc, &self.state)?;
+        copied.description = copy_option(alloc, &self.description)?;
+        copied.tags = copy_tags(alloc, &self.tags)?;
+        copied.attributes = copy_attributes(alloc, &self.attributes)?;
+        Ok(())
     }
 
     /// Whether it has expired at the moment `t`, in seconds since 1970, at most 2^40: its state is "expired", or more
@@ -151,6 +159,19 @@ impl Attr {
             value: copy_option(alloc, &self.value)?,
         })
     }
+
+    // The attribute of this key that holds the text.
+    pub(crate) fn of(alloc: Global, key: &Text, text: &Text) -> Result<Attr, Memory>
+        ensures { IfOk result (λ attribute. attribute ≡ record {
+          key = key.now;
+          value = Some text.now;
+        }) }
+    {
+        Ok(Attr {
+            key: key.copy(alloc)?,
+            value: Some(text.copy(alloc)?),
+        })
+    }
 }
 
 pub(crate) fn copy_option(alloc: Global, text: &Option<Text>) -> Result<Option<Text>, Memory>
@@ -166,20 +187,32 @@ pub(crate) fn copy_tags(alloc: Global, tags: &Tags) -> Result<Tags, Memory>
     ensures { IfOk result (λ copied. copied ≡ tags.now) }
 {
     let mut copied = Tags::fresh(alloc);
-    let tags = tags.as_slice();
+    add_tags(alloc, &mut copied, tags.as_slice())?;
+    Ok(copied)
+}
+
+fn add_tags(alloc: Global, copied: &mut Tags, tags: &[Text]) -> Result<(), Memory>
+    ensures { OnOk result (copied.new ≡ copied.old ++ tags.now) }
+{
     for tag in tags {
         copied.push(alloc, tag.copy(alloc)?)?;
     }
-    Ok(copied)
+    Ok(())
 }
 
 fn copy_attributes(alloc: Global, attributes: &Attrs) -> Result<Attrs, Memory>
     ensures { IfOk result (λ copied. copied ≡ attributes.now) }
 {
     let mut copied = Attrs::fresh(alloc);
-    let attributes = attributes.as_slice();
+    add_attributes(alloc, &mut copied, attributes.as_slice())?;
+    Ok(copied)
+}
+
+fn add_attributes(alloc: Global, copied: &mut Attrs, attributes: &[Attr]) -> Result<(), Memory>
+    ensures { OnOk result (copied.new ≡ copied.old ++ attributes.now) }
+{
     for attribute in attributes {
         copied.push(alloc, attribute.copy(alloc)?)?;
     }
-    Ok(copied)
+    Ok(())
 }

@@ -1,4 +1,4 @@
-ghost use Rattle.std.specs.Prelude.{◌≡◌, IfOk};
+ghost use Rattle.std.specs.Prelude.{◌≡◌, ◌++◌, IfOk, OnOk};
 
 use crate::{Event, Events, Items, Memory, Text};
 use std::alloc::Global;
@@ -61,8 +61,15 @@ fn copy_events(alloc: Global, events: &Events) -> Result<Events, Memory>
 {
     let events = events.as_slice();
     let mut copied = Vec::with_capacity(alloc, events.len())?;
+    add_events(alloc, &mut copied, events)?;
+    Ok(Events::from_vec(copied))
+}
+
+fn add_events(alloc: Global, copied: &mut Vec<Event>, events: &[Event]) -> Result<(), Memory>
+    ensures { OnOk result (copied.new.items ≡ copied.old.items ++ events.now) }
+{
     for event in events {
         copied.push(event.copy(alloc)?)?;
     }
-    Ok(Events::from_vec(copied))
+    Ok(())
 }

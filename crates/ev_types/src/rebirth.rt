@@ -1,5 +1,6 @@
-ghost use Rattle.std.specs.Prelude.{◌≡◌, ◌≤◌, ◌^◌, [], IfOk, OnOk, if◌then◌else◌};
+ghost use Rattle.std.specs.Prelude.{◌≡◌, ◌≤◌, ◌^◌, ℕ, [], pos, IfOk, OnOk, if◌then◌else◌};
 ghost use Rattle.std.specs.List.{list_any};
+ghost use Rattle.ev_types.specs.Set.{event_at};
 ghost use Rattle.ev_types.specs.Rebirth.{names, names_tags, kept_of, kept_attributes, attribute_key, has_key, with_kept, with_key, expired_copy};
 
 use crate::event::{copy_option, copy_tags};
@@ -18,21 +19,26 @@ impl Event {
         requires { now ≤ 2 ^ 40 }
         ensures { IfOk result (λ event. event ≡ expired_copy keep.now self.now now) }
     {
-        let keep = keep.as_slice();
-        Ok(Event {
-            host: kept_text(alloc, keep, &Field::Host, &self.host)?,
-            service: kept_text(alloc, keep, &Field::Service, &self.service)?,
-            state: Some(Text::from_str(alloc, EXPIRED)?),
-            description: kept_text(alloc, keep, &Field::Description, &self.description)?,
-            tags: kept_tags(alloc, keep, &self.tags)?,
-            time: now as i64,
-            time_micros: None,
-            ttl: kept_number(keep, &Field::Ttl, self.ttl),
-            metric: kept_number(keep, &Field::Metric, self.metric),
-            raw_d: None,
-            raw_f: None,
-            attributes: self.kept_attributes(alloc, keep)?,
-        })
+        let mut reborn = Event::at(alloc, now as i64);
+        self.keep_into(alloc, keep.as_slice(), &mut reborn)?;
+        Ok(reborn)
+    }
+
+    // Makes an event that holds nothing but its time this one as it comes again at that time.
+    fn keep_into(&self, alloc: Global, keep: &[KeepKey], reborn: &mut Event) -> Result<(), Memory>
+        requires { reborn.old ≡ event_at reborn.old.time }
+        ensures { OnOk result ((now : ℕ) → reborn.old.time ≡ pos now →
+            reborn.new ≡ expired_copy keep.now self.now now) }
+    {
+        reborn.ttl = kept_number(keep, &Field::Ttl, self.ttl);
+        reborn.metric = kept_number(keep, &Field::Metric, self.metric);
+        reborn.host = kept_text(alloc, keep, &Field::Host, &self.host)?;
+        reborn.service = kept_text(alloc, keep, &Field::Service, &self.service)?;
+        reborn.state = Some(Text::from_str(alloc, EXPIRED)?);
+        reborn.description = kept_text(alloc, keep, &Field::Description, &self.description)?;
+        reborn.tags = kept_tags(alloc, keep, &self.tags)?;
+        reborn.attributes = self.kept_attributes(alloc, keep)?;
+        Ok(())
     }
 
     fn kept_attributes(&self, alloc: Global, keep: &[KeepKey]) -> Result<Attrs, Memory>
@@ -63,11 +69,7 @@ impl Event {
             return Ok(());
         }
         if let Some(value) = last_value(self.attributes.as_slice(), key) {
-            let attribute = Attr {
-                key: key.copy(alloc)?,
-                value: Some(value.copy(alloc)?),
-            };
-            kept.push(alloc, attribute)?;
+            kept.push(alloc, Attr::of(alloc, key, value)?)?;
         }
         Ok(())
     }

@@ -1,6 +1,0 @@
-use Rattle.std.proofs.Common.{◌≡◌, take}
-use Rattle.ev_types.specs.Set.{other_attributes}
-use Rattle.ev_types.proofs.change.copied_others.Given as goal
-
-abbrev pub invariant-loop-attribute : goal.invariant-loop-attribute
-invariant-loop-attribute l = l.others ≡ other_attributes l.key (take l.attribute-index l.attributes)
