@@ -7,7 +7,7 @@ use crate::varint::varint_at;
 use std::marker::Model;
 
 /// What a reader finds at its place.
-#[derive(Clone, Copy, Debug, PartialEq, Eq)]
+#[derive(Clone, Copy)]
 pub enum Next {
     /// All bytes were read.
     End,
@@ -25,7 +25,7 @@ pub enum Next {
 }
 
 /// The body of a field.
-#[derive(Clone, Copy, Debug, PartialEq, Eq)]
+#[derive(Clone, Copy, Debug)]
 pub enum Body {
     /// A varint, modulo 2^64.
     Varint(u64),
@@ -38,7 +38,7 @@ pub enum Body {
 }
 
 /// Why no field begins at a place. The tag is looked at first, and then the body.
-#[derive(Clone, Copy, Debug, PartialEq, Eq)]
+#[derive(Clone, Copy, Debug)]
 pub enum WireWhy {
     /// The bytes end within a varint or within the body, or the body's length is greater than the bytes that are
     /// left.
