@@ -257,9 +257,7 @@ impl<'a, L: Links, D: Disk> Links for RecordedLinks<'a, L, D> {
             .offer(alloc, self.inner, self.last, link, bytes);
         self.recorder.note(link, answer);
         log_send(&mut self.log, link, bytes, answer);
-        if answer == SendAnswer::Memory {
-            self.spent = true;
-        }
+        self.spent = self.spent || answer == SendAnswer::Memory;
         answer
     }
 

@@ -5,8 +5,8 @@ use Rattle.recorded_links.specs.Sending.{after_send}
 use Rattle.recorded_links.proofs.StepLaws.{knows_send, offered, own_calls, unsent_calls}
 use Rattle.recorded_links.proofs.links.RecordedLinksLinks.send.Goals as goal
 
-pub invariant_of-self-then-eq-clause-knows : goal.invariant_of-self-then-eq-clause-knows
-invariant_of-self-then-eq-clause-knows g c =
+pub invariant_of-self-2-clause-knows : goal.invariant_of-self-2-clause-knows
+invariant_of-self-2-clause-knows g c =
     let asked = offered (first_after c.args.self.now.last) c.args.link c.args.bytes.now c.offer-answer.result
     c.reserve.new.self.sends.now.summaries.items (g.L.Links.report c.args.self.now.inner.now)
     (g.L.Links.report c.offer-answer.new.inner) c.offer-answer.ensures.passed c.offer-answer.ensures.own
@@ -15,8 +15,8 @@ invariant_of-self-then-eq-clause-knows g c =
     (g.L.Links.report c.args.self.now.inner.now) (g.L.Links.report c.offer-answer.new.inner) c.args.link asked.number
     c.args.bytes.now asked.answer c.offer-answer.result c.args.self.now.knows asked.calls c.log_send.ensures
 
-pub returns-then-eq-clause-adds : goal.returns-then-eq-clause-adds
-returns-then-eq-clause-adds g c =
+pub returns-clause-adds : goal.returns-clause-adds
+returns-clause-adds g c =
     let asked = offered (first_after c.args.self.now.last) c.args.link c.args.bytes.now c.offer-answer.result
     c.reserve.new.self.sends.now.summaries.items (g.L.Links.report c.args.self.now.inner.now)
     (g.L.Links.report c.offer-answer.new.inner) c.offer-answer.ensures.passed c.offer-answer.ensures.own
@@ -27,30 +27,8 @@ returns-then-eq-clause-adds g c =
     (g.L.Links.report c.offer-answer.new.inner) (g.D.Disk.report c.args.self.now.recorder.journal.disk.now)
     (g.D.Disk.report c.note.new.self.journal.disk.now) c.log_send.ensures asked.calls (omega (arith, same))
 
-pub invariant_of-self-else-eq-clause-knows : goal.invariant_of-self-else-eq-clause-knows
-invariant_of-self-else-eq-clause-knows g c =
-    let asked = offered (first_after c.args.self.now.last) c.args.link c.args.bytes.now c.offer-answer.result
-    c.reserve.new.self.sends.now.summaries.items (g.L.Links.report c.args.self.now.inner.now)
-    (g.L.Links.report c.offer-answer.new.inner) c.offer-answer.ensures.passed c.offer-answer.ensures.own
-    c.offer-answer.ensures.unnoted in
-    knows_send (first_after c.args.self.now.last) c.args.self.now.log c.log_send.new.log
-    (g.L.Links.report c.args.self.now.inner.now) (g.L.Links.report c.offer-answer.new.inner) c.args.link asked.number
-    c.args.bytes.now asked.answer c.offer-answer.result c.args.self.now.knows asked.calls c.log_send.ensures
-
-pub returns-else-eq-clause-adds : goal.returns-else-eq-clause-adds
-returns-else-eq-clause-adds g c =
-    let asked = offered (first_after c.args.self.now.last) c.args.link c.args.bytes.now c.offer-answer.result
-    c.reserve.new.self.sends.now.summaries.items (g.L.Links.report c.args.self.now.inner.now)
-    (g.L.Links.report c.offer-answer.new.inner) c.offer-answer.ensures.passed c.offer-answer.ensures.own
-    c.offer-answer.ensures.unnoted in
-    let same : (g.D.Disk.report c.note.new.self.journal.disk.now).faults
-    ≡ (g.D.Disk.report c.args.self.now.recorder.journal.disk.now).faults = search rules in
-    own_calls c.args.self.now.log c.log_send.new.log _ _ (g.L.Links.report c.args.self.now.inner.now)
-    (g.L.Links.report c.offer-answer.new.inner) (g.D.Disk.report c.args.self.now.recorder.journal.disk.now)
-    (g.D.Disk.report c.note.new.self.journal.disk.now) c.log_send.ensures asked.calls (omega (arith, same))
-
-pub returns-then-eq-clause-unsent : goal.returns-then-eq-clause-unsent
-returns-then-eq-clause-unsent g c = λ memory. record {
+pub returns-clause-unsent : goal.returns-clause-unsent
+returns-clause-unsent g c = λ memory. record {
   calls =
       unsent_calls (first_after c.args.self.now.last) c.args.link c.args.bytes.now c.offer-answer.result
       c.reserve.new.self.sends.now.summaries.items (g.L.Links.report c.args.self.now.inner.now)
