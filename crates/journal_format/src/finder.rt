@@ -12,7 +12,7 @@ use std::alloc::Global;
 use thiserror::Error;
 
 /// The end of a journal.
-#[derive(Clone, Copy, Debug, PartialEq, Eq)]
+#[derive(Clone, Copy, PartialEq, Eq)]
 pub struct Found {
     /// The place of its closed gate.
     pub gate: u64,

@@ -12,7 +12,7 @@ pub struct TurnRecord {
 }
 
 /// What came of the sends on one link.
-#[derive(Clone, Copy, Debug, PartialEq, Eq)]
+#[derive(Clone, Copy)]
 pub struct Summary {
     pub link: u64,
     /// The number of bytes that were taken.
@@ -25,7 +25,7 @@ pub struct Summary {
 pub type Summaries = Items<Summary>;
 
 /// How the last send on a link was answered.
-#[derive(Clone, Copy, Debug, PartialEq, Eq)]
+#[derive(Clone, Copy)]
 pub enum SendEnd {
     /// It took bytes.
     Took,

@@ -5,7 +5,7 @@ use ev_types::Memory;
 use thiserror::Error;
 
 /// Why no record was read.
-#[derive(Clone, Copy, Debug, PartialEq, Eq, Error)]
+#[derive(Clone, Copy, Debug, Error)]
 pub enum Unread {
     /// The bytes do not begin with one.
     #[error("not a record")]

@@ -1,8 +1,8 @@
 //! Writing the parts of a journal. If memory runs out, the output still begins with what it had.
 
-ghost use Rattle.std.specs.Prelude.{◌≡◌, ◌++◌, ◌≤◌, ◌∷◌, [], length, OnErr, OnOk};
+ghost use Rattle.std.specs.Prelude.{◌≡◌, ◌++◌, ◌≤◌, ◌<◌, ◌^◌, ◌∷◌, length, OnErr, OnOk};
 ghost use Rattle.std.specs.List.{flat_map};
-ghost use Rattle.std.specs.Int.{to_be_bytes, w64};
+ghost use Rattle.std.specs.Int.{to_be_bytes, w32, w64};
 ghost use Rattle.list_laws.specs.Prefix.{IsPrefix};
 ghost use Rattle.journal_format.specs.Limits.{config_limit, summary_limit};
 ghost use Rattle.journal_format.specs.Journals.{head_bytes};
@@ -43,8 +43,7 @@ pub fn push_turn(
     ensures err { OnErr result (IsPrefix out.old.items out.new.items) }
 {
     push_front(alloc, out, summaries, secs)?;
-    push_event(out, event)?;
-    Ok(())
+    push_event(out, event)
 }
 
 /// Adds the bytes of the record of a read at the end, with the bytes that were read where they are.
@@ -63,8 +62,7 @@ pub fn push_read_turn(
     ensures err { OnErr result (IsPrefix out.old.items out.new.items) }
 {
     push_front(alloc, out, summaries, secs)?;
-    push_read(out, link, bytes)?;
-    Ok(())
+    push_read(out, link, bytes)
 }
 
 /// Adds what is before the event in a record.
@@ -79,10 +77,9 @@ fn push_front(
     ensures err { OnErr result (IsPrefix out.old.items out.new.items) }
 {
     let count = summaries.len() as u16;
-    out.extend_from_slice(&count.to_be_bytes())?;
+    push_bytes(out, &count.to_be_bytes())?;
     push_summaries(out, summaries)?;
-    out.extend_from_slice(&secs.to_be_bytes())?;
-    Ok(())
+    push_bytes(out, &secs.to_be_bytes())
 }
 
 fn push_summaries(out: &mut Vec<u8>, summaries: &[Summary]) -> Result<(), Memory>
@@ -100,10 +97,9 @@ fn push_summary(out: &mut Vec<u8>, summary: &Summary) -> Result<(), Memory>
     ensures ok { OnOk result (out.new.items ≡ out.old.items ++ summary_bytes summary.now) }
     ensures err { OnErr result (IsPrefix out.old.items out.new.items) }
 {
-    out.extend_from_slice(&summary.link.to_be_bytes())?;
-    out.extend_from_slice(&summary.taken.to_be_bytes())?;
-    out.push(end_byte(summary.end))?;
-    Ok(())
+    push_bytes(out, &summary.link.to_be_bytes())?;
+    push_bytes(out, &summary.taken.to_be_bytes())?;
+    push_bytes(out, &[end_byte(summary.end)])
 }
 
 fn end_byte(end: SendEnd) -> u8
@@ -122,15 +118,14 @@ fn push_event(out: &mut Vec<u8>, event: &TurnEvent) -> Result<(), Memory>
     ensures err { OnErr result (IsPrefix out.old.items out.new.items) }
 {
     match event {
-        TurnEvent::Listen => out.push(0)?,
-        TurnEvent::Idle => out.push(1)?,
-        TurnEvent::Opened { link } => push_of_link(out, 2, *link)?,
-        TurnEvent::Read { link, bytes } => push_read(out, *link, bytes.as_slice())?,
-        TurnEvent::Ended { link } => push_of_link(out, 4, *link)?,
-        TurnEvent::Broken { link } => push_of_link(out, 5, *link)?,
-        TurnEvent::Room { link } => push_of_link(out, 6, *link)?,
+        TurnEvent::Listen => push_bytes(out, &[0]),
+        TurnEvent::Idle => push_bytes(out, &[1]),
+        TurnEvent::Opened { link } => push_of_link(out, 2, *link),
+        TurnEvent::Read { link, bytes } => push_read(out, *link, bytes.as_slice()),
+        TurnEvent::Ended { link } => push_of_link(out, 4, *link),
+        TurnEvent::Broken { link } => push_of_link(out, 5, *link),
+        TurnEvent::Room { link } => push_of_link(out, 6, *link),
     }
-    Ok(())
 }
 
 /// Adds a read of the link.
@@ -141,10 +136,18 @@ fn push_read(out: &mut Vec<u8>, link: u64, bytes: &[u8]) -> Result<(), Memory>
     ensures err { OnErr result (IsPrefix out.old.items out.new.items) }
 {
     push_of_link(out, 3, link)?;
+    push_counted(out, bytes)
+}
+
+/// Adds how many bytes there are, and the bytes.
+fn push_counted(out: &mut Vec<u8>, bytes: &[u8]) -> Result<(), Memory>
+    requires { length bytes.now < 2 ^ 32 }
+    ensures ok { OnOk result (out.new.items ≡ out.old.items ++ (to_be_bytes w32 (length bytes.now) ++ bytes.now)) }
+    ensures err { OnErr result (IsPrefix out.old.items out.new.items) }
+{
     let count = bytes.len() as u32;
-    out.extend_from_slice(&count.to_be_bytes())?;
-    out.extend_from_slice(bytes)?;
-    Ok(())
+    push_bytes(out, &count.to_be_bytes())?;
+    push_bytes(out, bytes)
 }
 
 /// Adds a kind and a link.
@@ -153,8 +156,16 @@ fn push_of_link(out: &mut Vec<u8>, kind: u8, link: u64) -> Result<(), Memory>
         ≡ out.old.items ++ kind ∷ to_be_bytes w64 link) }
     ensures err { OnErr result (IsPrefix out.old.items out.new.items) }
 {
-    out.push(kind)?;
-    out.extend_from_slice(&link.to_be_bytes())?;
+    push_bytes(out, &[kind])?;
+    push_bytes(out, &link.to_be_bytes())
+}
+
+/// Adds the bytes.
+fn push_bytes(out: &mut Vec<u8>, bytes: &[u8]) -> Result<(), Memory>
+    ensures ok { OnOk result (out.new.items ≡ out.old.items ++ bytes.now) }
+    ensures err { OnErr result (IsPrefix out.old.items out.new.items) }
+{
+    out.extend_from_slice(bytes)?;
     Ok(())
 }
 
@@ -164,8 +175,5 @@ pub fn push_head(_alloc: Global, out: &mut Vec<u8>, config: &[u8]) -> Result<(),
     ensures ok { OnOk result (out.new.items ≡ out.old.items ++ head_bytes config.now) }
     ensures err { OnErr result (IsPrefix out.old.items out.new.items) }
 {
-    let size = config.len() as u32;
-    out.extend_from_slice(&size.to_be_bytes())?;
-    out.extend_from_slice(config)?;
-    Ok(())
+    push_counted(out, config)
 }

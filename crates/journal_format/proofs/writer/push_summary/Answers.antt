@@ -1,13 +1,28 @@
-use Rattle.std.proofs.Common.{◌∷◌, [], rules}
-use Rattle.std.specs.Int.{w64, to_be_bytes}
-use Rattle.journal_format.specs.Spelling.{end_byte}
-use Rattle.journal_format.proofs.PartLaws.{three_more}
+use Rattle.journal_format.proofs.PartLaws.{if_err, not_added, prefix_more, three_cut, three_end}
 use Rattle.journal_format.proofs.writer.push_summary.Goals as goal
+
+pub returns-in_err-push_bytes-clause-ok : goal.returns-in_err-push_bytes-clause-ok
+returns-in_err-push_bytes-clause-ok c = not_added _ c.from_residual.result _ c.from_residual.ensures.1
+
+pub returns-in_err-push_bytes-clause-err : goal.returns-in_err-push_bytes-clause-err
+returns-in_err-push_bytes-clause-err c = if_err c.from_residual.result _ c.in_err-push_bytes.ensures.err
+
+pub returns-in_err-push_bytes-2-clause-ok : goal.returns-in_err-push_bytes-2-clause-ok
+returns-in_err-push_bytes-2-clause-ok c =
+    not_added _ c.from_residual-in_err-push_bytes-2.result _ c.from_residual-in_err-push_bytes-2.ensures.1
+
+pub returns-in_err-push_bytes-2-clause-err : goal.returns-in_err-push_bytes-2-clause-err
+returns-in_err-push_bytes-2-clause-err c =
+    if_err c.from_residual-in_err-push_bytes-2.result _
+    (prefix_more _ _ _ _ c.in_ok-push_bytes.ensures.ok c.in_err-push_bytes-2.ensures.err)
 
 pub returns-clause-ok : goal.returns-clause-ok
 returns-clause-ok c =
-    let summary = c.args.summary.now in
-    three_more c.args.out.now.items (to_be_bytes w64 summary.link) (to_be_bytes w64 summary.taken)
-    (end_byte summary.end ∷ [])
-    c.extend_from_slice.new.self.items c.extend_from_slice-2.new.self.items c.push.new.self.items (search rules)
-    (search rules) (search rules)
+    three_end c.push_bytes-3.result _ _ _ _ _ _ _ (rw c.to_be_bytes.ensures at c.in_ok-push_bytes.ensures.ok)
+    (rw c.to_be_bytes-2.ensures at c.in_ok-push_bytes-2.ensures.ok)
+    (rw c.end_byte.ensures at c.push_bytes-3.ensures.ok)
+
+pub returns-clause-err : goal.returns-clause-err
+returns-clause-err c =
+    three_cut c.push_bytes-3.result _ _ _ _ _ _ c.in_ok-push_bytes.ensures.ok c.in_ok-push_bytes-2.ensures.ok
+    c.push_bytes-3.ensures.err
