@@ -47,19 +47,38 @@ fn moments(alloc: Global) -> Result<Fields, Memory> {
     Ok(fields)
 }
 
-/// Whether events whose moments are these numbers are known to be of these forks, where the keys of forks are moments.
-fn are_known_as(
+/// Whether an event of the moment is known to be of this fork.
+fn is_known_as(
     alloc: Global,
     table: &ForkTable<u64>,
+    fields: &Fields,
+    moment: i64,
+    fork: Option<usize>,
+) -> bool {
+    let event = Event::at(alloc, moment);
+    table.known(&event, fields) == fork
+}
+
+fn is_each_known_as(
+    alloc: Global,
+    table: &ForkTable<u64>,
+    fields: &Fields,
     rows: &[(i64, Option<usize>)],
-) -> Result<bool, Memory> {
-    let fields = moments(alloc)?;
-    for row in rows {
-        if table.known(&Event::at(alloc, row.0), &fields) != row.1 {
-            return Ok(false);
+) -> bool {
+    for (moment, fork) in rows {
+        if !is_known_as(alloc, table, fields, *moment, *fork) {
+            return false;
         }
     }
-    Ok(true)
+    true
+}
+
+/// Whether events whose moments are these numbers are known to be of these forks, where the keys of forks are moments.
+fn are_known_as(alloc: Global, table: &ForkTable<u64>, rows: &[(i64, Option<usize>)]) -> bool {
+    match moments(alloc) {
+        Ok(fields) => is_each_known_as(alloc, table, &fields, rows),
+        Err(Memory) => false,
+    }
 }
 
 /// Sets when the fork of the number is due, if there is such a fork.
@@ -93,18 +112,38 @@ fn enter(table: &mut ForkTable<u64>, number: usize, steps: &mut Steps<CountLedge
     Some(old)
 }
 
+/// Asks twice which forks are due at moment 7.
+fn ask_twice(
+    alloc: Global,
+    table: &mut ForkTable<u64>,
+    steps: &mut Steps<CountLedger>,
+    ids: &mut Ids,
+) -> Result<(), Memory> {
+    table.due_forks(alloc, 7, ids, steps)?;
+    table.due_forks(alloc, 7, ids, steps)
+}
+
 /// Whether these forks are given at moment 7, once though it is asked twice, and no fork is due then.
 fn are_given_once(
     alloc: Global,
     table: &mut ForkTable<u64>,
     steps: &mut Steps<CountLedger>,
     forks: &[usize],
-) -> Result<bool, Memory> {
+) -> bool {
     let mut ids = Ids::fresh(alloc);
-    for _ in 0..2 {
-        table.due_forks(alloc, 7, &mut ids, steps)?;
+    let asked = ask_twice(alloc, table, steps, &mut ids).is_ok();
+    asked && ids.as_slice() == forks && table.next_due().is_none()
+}
+
+fn set_dues(
+    alloc: Global,
+    table: &mut ForkTable<u64>,
+    dues: &[(usize, u64)],
+) -> Result<(), Memory> {
+    for (number, due) in dues {
+        set_due(alloc, table, *number, *due)?;
     }
-    Ok(ids.as_slice() == forks && table.next_due().is_none())
+    Ok(())
 }
 
 /// Whether forks that are due at these moments, of which the first one is 5, are given at moment 7 in the order of
@@ -115,28 +154,39 @@ fn are_due(
     steps: &mut Steps<CountLedger>,
     dues: &[(usize, u64)],
     forks: &[usize],
-) -> Result<bool, Memory> {
-    for row in dues {
-        set_due(alloc, table, row.0, row.1)?;
-    }
-    Ok(table.next_due() == Some(5) && are_given_once(alloc, table, steps, forks)?)
+) -> bool {
+    set_dues(alloc, table, dues).is_ok()
+        && table.next_due() == Some(5)
+        && are_given_once(alloc, table, steps, forks)
+}
+
+/// Whether there are two forks, the second under the key -9 and none under 9.
+fn are_found(alloc: Global, table: &ForkTable<u64>, first: usize, second: usize) -> bool {
+    first != second
+        && is_found(alloc, table, -9, Some(second))
+        && is_found(alloc, table, 9, None)
+        && table.len() == 2
+}
+
+/// Whether the forks have the values 10 and 20, and the second one more after it was entered.
+fn are_entered(
+    table: &mut ForkTable<u64>,
+    steps: &mut Steps<CountLedger>,
+    first: usize,
+    second: usize,
+) -> bool {
+    enter(table, second, steps) == Some(20)
+        && enter(table, second, steps) == Some(21)
+        && enter(table, first, steps) == Some(10)
 }
 
 /// Whether the forks with the values 10 and 20 under the keys 8 and -9 are found, due once, and entered by count.
 fn are_kept(alloc: Global, table: &mut ForkTable<u64>, first: usize, second: usize) -> bool {
     let mut steps = counter();
     let dues = [(second, 5), (first, 7)];
-    first != second
-        && is_found(alloc, table, -9, Some(second))
-        && is_found(alloc, table, 9, None)
-        && table.len() == 2
-        && matches!(
-            are_due(alloc, table, &mut steps, &dues, &[first, second]),
-            Ok(true)
-        )
-        && enter(table, second, &mut steps) == Some(20)
-        && enter(table, second, &mut steps) == Some(21)
-        && enter(table, first, &mut steps) == Some(10)
+    are_found(alloc, table, first, second)
+        && are_due(alloc, table, &mut steps, &dues, &[first, second])
+        && are_entered(table, &mut steps, first, second)
         && is_counted(&steps, 3, 2)
 }
 
@@ -191,7 +241,7 @@ fn is_second_due_last(alloc: Global, table: &mut ForkTable<u64>, forks: ThreeFor
     let mut steps = counter();
     let dues = [(forks.second, 5), (forks.third, 7), (forks.first, 6)];
     let order = [forks.first, forks.third, forks.second];
-    matches!(are_due(alloc, table, &mut steps, &dues, &order), Ok(true)) && is_counted(&steps, 0, 3)
+    are_due(alloc, table, &mut steps, &dues, &order) && is_counted(&steps, 0, 3)
 }
 
 /// Whether of three forks, which begin at the moments 1, 2 and 3, the second ends at 2 if the first got an item at 3;
@@ -221,7 +271,7 @@ fn are_all_known(alloc: Global, table: &ForkTable<u64>, forks: ThreeForks) -> bo
         (7, Some(forks.third)),
         (9, None),
     ];
-    matches!(are_known_as(alloc, table, &rows), Ok(true))
+    are_known_as(alloc, table, &rows)
 }
 
 /// Whether the second fork ends, so that no event is known to be of it, and the third takes its place, so that it is
@@ -232,7 +282,7 @@ fn is_third_moved(alloc: Global, table: &mut ForkTable<u64>, forks: ThreeForks) 
     table.drop_idle(3);
     table.note(alloc, forks.third);
     let rows = [(8, Some(forks.first)), (-9, None), (7, Some(forks.third))];
-    matches!(are_known_as(alloc, table, &rows), Ok(true))
+    are_known_as(alloc, table, &rows)
 }
 
 /// Whether three forks are known until they end, and a fork that is added then has the number of the one that ended,
@@ -244,10 +294,7 @@ fn are_known(alloc: Global, table: &mut ForkTable<u64>) -> bool {
     are_all_known(alloc, table, forks)
         && is_third_moved(alloc, table, forks)
         && added(alloc, table, -9, 40, 5) == Some(forks.second)
-        && matches!(
-            are_known_as(alloc, table, &[(-9, Some(forks.second))]),
-            Ok(true)
-        )
+        && are_known_as(alloc, table, &[(-9, Some(forks.second))])
 }
 
 #[test]

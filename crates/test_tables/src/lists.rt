@@ -1,5 +1,5 @@
 //! Lists of ids.
-ghost use Rattle.std.specs.Prelude.{◌≡◌, length};
+ghost use Rattle.std.specs.Prelude.{◌≡◌, ◌≤◌, [], length, replicate, IfOk};
 
 use crate::steps::Random;
 use linked_slots::Lists;
@@ -122,10 +122,18 @@ fn lists_agree_with_plain_lists(rt: HostRuntime) {
     assert!(rt; lists_agree(rt.alloc()));
 }
 
-/// Whether the first of two ids is alone in the other list once it is moved, and the second in its own.
-fn is_moved(alloc: Global) -> Result<bool, Memory> {
+/// Two lists without ids, with room for two.
+fn two_lists(alloc: Global) -> Result<Lists, Memory>
+    ensures { IfOk result (λ all. (all.lists ≡ replicate 2 []) × (2 ≤ all.spare)) }
+{
     let mut lists = Lists::fresh(alloc, 2)?;
     lists.reserve(alloc, 2)?;
+    Ok(lists)
+}
+
+/// Whether the first of two ids is alone in the other list once it is moved, and the second in its own.
+fn is_moved(alloc: Global) -> Result<bool, Memory> {
+    let mut lists = two_lists(alloc)?;
     let first = lists.insert(0);
     let second = lists.insert(0);
     lists.move_back(1, first);

@@ -1,3 +1,5 @@
+//! Lists that grow at their end.
+
 use ev_types::{Blob, Key, Text, Texts, Value};
 use list_laws::{Ids, Memory};
 use std::alloc::Global;
