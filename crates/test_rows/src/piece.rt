@@ -35,14 +35,21 @@ pub(crate) fn append_piece(
 ) -> Result<(), PieceFault> {
     let piece = piece.strip_prefix(' ').unwrap_or(piece);
     match mark {
-        Mark::Text => value.extend_from_slice(piece.as_bytes())?,
-        Mark::Line => {
-            value.extend_from_slice(piece.as_bytes())?;
-            value.extend_from_slice(b"\n")?;
-        }
-        Mark::Words => append_words(alloc, names, piece, value)?,
+        Mark::Text => append_bytes(piece.as_bytes(), value),
+        Mark::Line => append_line(piece.as_bytes(), value),
+        Mark::Words => append_words(alloc, names, piece, value),
     }
+}
+
+fn append_bytes(bytes: &[u8], value: &mut Vec<u8>) -> Result<(), PieceFault> {
+    value.extend_from_slice(bytes)?;
     Ok(())
+}
+
+/// Appends the bytes and a line feed.
+fn append_line(bytes: &[u8], value: &mut Vec<u8>) -> Result<(), PieceFault> {
+    append_bytes(bytes, value)?;
+    append_bytes(b"\n", value)
 }
 
 /// Appends the bytes of words that blanks separate.
@@ -65,23 +72,37 @@ fn append_word(
     word: &str,
     value: &mut Vec<u8>,
 ) -> Result<(), PieceFault> {
-    let Some((count, word)) = word.split_once('*') else {
-        return append_once(alloc, names, word, value);
-    };
-    let Ok(count) = count.parse::<u32>() else {
-        return Err(PieceFault::Unread {
-            why: "a number of times is not a number",
-        });
-    };
-    let mut once = Vec::new(alloc);
-    append_once(alloc, names, word, &mut once)?;
-    append_times(once.as_slice(), count, value)?;
-    Ok(())
+    match word.split_once('*') {
+        Some((count, word)) => append_times(alloc, names, read_count(count)?, word, value),
+        None => append_once(alloc, names, word, value),
+    }
 }
 
-fn append_times(bytes: &[u8], count: u32, value: &mut Vec<u8>) -> Result<(), AllocError> {
+fn read_count(digits: &str) -> Result<u32, PieceFault> {
+    match digits.parse::<u32>() {
+        Ok(count) => Ok(count),
+        Err(_) => Err(PieceFault::Unread {
+            why: "a number of times is not a number",
+        }),
+    }
+}
+
+/// Appends the bytes of a word this many times.
+fn append_times(
+    alloc: Global,
+    names: &[Field],
+    count: u32,
+    word: &str,
+    value: &mut Vec<u8>,
+) -> Result<(), PieceFault> {
+    let mut once = Vec::new(alloc);
+    append_once(alloc, names, word, &mut once)?;
+    append_copies(once.as_slice(), count, value)
+}
+
+fn append_copies(bytes: &[u8], count: u32, value: &mut Vec<u8>) -> Result<(), PieceFault> {
     for _ in 0..count {
-        value.extend_from_slice(bytes)?;
+        append_bytes(bytes, value)?;
     }
     Ok(())
 }
@@ -114,8 +135,7 @@ fn append_named(names: &[Field], word: &str, value: &mut Vec<u8>) -> Result<(), 
             why: "a name has no value",
         });
     };
-    value.extend_from_slice(named)?;
-    Ok(())
+    append_bytes(named, value)
 }
 
 /// The value of a name.
@@ -130,10 +150,7 @@ pub(crate) fn value_of<'a>(names: &'a [Field], name: &str) -> Option<&'a [u8]> {
 
 fn append_digits(alloc: Global, digits: &str, value: &mut Vec<u8>) -> Result<(), PieceFault> {
     match hex::decode(alloc, digits) {
-        Ok(bytes) => {
-            value.extend_from_slice(bytes.as_slice())?;
-            Ok(())
-        }
+        Ok(bytes) => append_bytes(bytes.as_slice(), value),
         Err(FromHexError::OutOfMemory) => Err(PieceFault::Memory),
         Err(_) => Err(PieceFault::Unread {
             why: "a word is not hexadecimal digits, two a byte",

@@ -12,10 +12,7 @@ pub fn read_rows(alloc: Global, text: &str) -> Result<Vec<Row>, AllocError> {
         row: None,
         field: None,
     };
-    for line in text.split('\n') {
-        reader.take_line(line)?;
-    }
-    reader.end_row()?;
+    reader.take_lines(text)?;
     Ok(reader.rows)
 }
 
@@ -35,6 +32,13 @@ struct Reader {
 }
 
 impl Reader {
+    fn take_lines(&mut self, text: &str) -> Result<(), AllocError> {
+        for line in text.split('\n') {
+            self.take_line(line)?;
+        }
+        self.end_row()
+    }
+
     fn take_line(&mut self, line: &str) -> Result<(), AllocError> {
         self.line = self.line.saturating_add(1);
         if line.is_empty() {

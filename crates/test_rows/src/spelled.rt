@@ -21,13 +21,7 @@ pub fn read_spelled(alloc: Global, text: &str) -> Result<Blob, RowFault> {
         part: Vec::new(alloc),
         times: None,
     };
-    for (i, part) in text.split('@').enumerate() {
-        if i == 0 {
-            spelled.put(part.as_bytes())?;
-        } else {
-            spelled.read_part(alloc, part)?;
-        }
-    }
+    spelled.read_parts(alloc, text)?;
     match spelled.times {
         Some(_) => Err(RowFault::Unreadable),
         None => Ok(Blob::from_vec(spelled.bytes)),
@@ -35,7 +29,19 @@ pub fn read_spelled(alloc: Global, text: &str) -> Result<Blob, RowFault> {
 }
 
 impl Spelled {
-    fn put(&mut self, bytes: &[u8]) -> Result<(), Memory> {
+    /// Reads the text before the first mark, and what is after each mark.
+    fn read_parts(&mut self, alloc: Global, text: &str) -> Result<(), RowFault> {
+        for (i, part) in text.split('@').enumerate() {
+            if i == 0 {
+                self.put(part.as_bytes())?;
+            } else {
+                self.read_part(alloc, part)?;
+            }
+        }
+        Ok(())
+    }
+
+    fn put(&mut self, bytes: &[u8]) -> Result<(), RowFault> {
         match self.times {
             Some(_) => self.part.extend_from_slice(bytes)?,
             None => self.bytes.extend_from_slice(bytes)?,
@@ -45,20 +51,34 @@ impl Spelled {
 
     /// Reads what is after a mark.
     fn read_part(&mut self, alloc: Global, part: &str) -> Result<(), RowFault> {
-        if let Some(rest) = part.strip_prefix('<') {
-            let (digits, rest) = rest.split_once('>').ok_or(RowFault::Unreadable)?;
-            self.put_digits(alloc, digits)?;
-            self.put(rest.as_bytes())?;
-        } else if let Some(rest) = part.strip_prefix('(') {
-            let (times, rest) = split_word(rest)?;
-            self.times = Some(read_number(times)?);
-            self.put(rest.as_bytes())?;
+        if let Some(digits) = part.strip_prefix('<') {
+            self.read_digits(alloc, digits)
+        } else if let Some(repeated) = part.strip_prefix('(') {
+            self.begin_part(repeated)
         } else {
-            let rest = part.strip_prefix(')').ok_or(RowFault::Unreadable)?;
-            self.repeat()?;
-            self.put(rest.as_bytes())?;
+            self.end_part(part)
         }
-        Ok(())
+    }
+
+    /// Reads digits, and the text after them.
+    fn read_digits(&mut self, alloc: Global, text: &str) -> Result<(), RowFault> {
+        let (digits, rest) = text.split_once('>').ok_or(RowFault::Unreadable)?;
+        self.put_digits(alloc, digits)?;
+        self.put(rest.as_bytes())
+    }
+
+    /// Reads how many times a part comes, and its text.
+    fn begin_part(&mut self, text: &str) -> Result<(), RowFault> {
+        let (times, rest) = split_word(text)?;
+        self.times = Some(read_number(times)?);
+        self.put(rest.as_bytes())
+    }
+
+    /// Reads the end of a part that comes more than once, and the text after it.
+    fn end_part(&mut self, text: &str) -> Result<(), RowFault> {
+        let rest = text.strip_prefix(')').ok_or(RowFault::Unreadable)?;
+        self.repeat()?;
+        self.put(rest.as_bytes())
     }
 
     fn put_digits(&mut self, alloc: Global, digits: &str) -> Result<(), RowFault> {
