@@ -277,6 +277,66 @@ fn changed_kind(
     Ok(Kind::Changed { field, init })
 }
 
+#[tactic(auto, unfolding(crate::specs::Kinds::choosing_or_gathering_kind))]
+fn runs_kind(
+    alloc: Global,
+    env: &[Binding],
+    start: usize,
+    forms: &[Form],
+) -> Result<Kind, ConfigFault>
+    ensures { GivesAs kind_tree result (choosing_or_gathering_kind_of env.now StreamWord.Runs start
+        (form_trees forms.now)) }
+{
+    let count = count_at(env, argument(start, 0, forms)?)?;
+    let field = field_at(alloc, env, argument(start, 1, forms)?)?;
+    Ok(Kind::Runs { count, field })
+}
+
+#[tactic(auto, unfolding(crate::specs::Kinds::choosing_or_gathering_kind))]
+fn throttle_kind(env: &[Binding], start: usize, forms: &[Form]) -> Result<Kind, ConfigFault>
+    ensures { GivesAs kind_tree result (choosing_or_gathering_kind_of env.now StreamWord.Throttle start
+        (form_trees forms.now)) }
+{
+    let count = count_at(env, argument(start, 0, forms)?)?;
+    let secs = secs_at(env, argument(start, 1, forms)?)?;
+    Ok(Kind::Throttle { count, secs })
+}
+
+#[tactic(auto, unfolding(crate::specs::Kinds::choosing_or_gathering_kind))]
+fn rollup_kind(env: &[Binding], start: usize, forms: &[Form]) -> Result<Kind, ConfigFault>
+    ensures { GivesAs kind_tree result (choosing_or_gathering_kind_of env.now StreamWord.Rollup start
+        (form_trees forms.now)) }
+{
+    let count = count_at(env, argument(start, 0, forms)?)?;
+    let secs = secs_at(env, argument(start, 1, forms)?)?;
+    Ok(Kind::Rollup { count, secs })
+}
+
+#[tactic(auto, unfolding(crate::specs::Kinds::choosing_or_gathering_kind))]
+fn batch_kind(env: &[Binding], start: usize, forms: &[Form]) -> Result<Kind, ConfigFault>
+    ensures { GivesAs kind_tree result (choosing_or_gathering_kind_of env.now StreamWord.Batch start
+        (form_trees forms.now)) }
+{
+    let count = count_at(env, argument(start, 0, forms)?)?;
+    let secs = secs_at(env, argument(start, 1, forms)?)?;
+    Ok(Kind::Batch { count, secs })
+}
+
+#[tactic(auto, unfolding(crate::specs::Kinds::choosing_or_gathering_kind))]
+fn stable_kind(
+    alloc: Global,
+    env: &[Binding],
+    start: usize,
+    forms: &[Form],
+) -> Result<Kind, ConfigFault>
+    ensures { GivesAs kind_tree result (choosing_or_gathering_kind_of env.now StreamWord.Stable start
+        (form_trees forms.now)) }
+{
+    let secs = secs_at(env, argument(start, 0, forms)?)?;
+    let field = field_at(alloc, env, argument(start, 1, forms)?)?;
+    Ok(Kind::Stable { secs, field })
+}
+
 #[tactic(auto, unfolding(crate::specs::Kinds::by_kind))]
 fn by_kind(
     alloc: Global,
@@ -340,26 +400,11 @@ fn choosing_or_gathering_kind(
 {
     match word {
         StreamWord::Changed => changed_kind(alloc, env, start, forms),
-        StreamWord::Runs => Ok(Kind::Runs {
-            count: count_at(env, argument(start, 0, forms)?)?,
-            field: field_at(alloc, env, argument(start, 1, forms)?)?,
-        }),
-        StreamWord::Throttle => Ok(Kind::Throttle {
-            count: count_at(env, argument(start, 0, forms)?)?,
-            secs: secs_at(env, argument(start, 1, forms)?)?,
-        }),
-        StreamWord::Rollup => Ok(Kind::Rollup {
-            count: count_at(env, argument(start, 0, forms)?)?,
-            secs: secs_at(env, argument(start, 1, forms)?)?,
-        }),
-        StreamWord::Batch => Ok(Kind::Batch {
-            count: count_at(env, argument(start, 0, forms)?)?,
-            secs: secs_at(env, argument(start, 1, forms)?)?,
-        }),
-        StreamWord::Stable => Ok(Kind::Stable {
-            secs: secs_at(env, argument(start, 0, forms)?)?,
-            field: field_at(alloc, env, argument(start, 1, forms)?)?,
-        }),
+        StreamWord::Runs => runs_kind(alloc, env, start, forms),
+        StreamWord::Throttle => throttle_kind(env, start, forms),
+        StreamWord::Rollup => rollup_kind(env, start, forms),
+        StreamWord::Batch => batch_kind(env, start, forms),
+        StreamWord::Stable => stable_kind(alloc, env, start, forms),
         StreamWord::Coalesce => {
             let secs = coalesce_secs(env, start, forms)?;
             Ok(Kind::Coalesce { secs })
