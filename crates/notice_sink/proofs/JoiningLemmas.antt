@@ -153,6 +153,9 @@ pub number_written : (out name digits : List ℕ) → (out ++ (32 ∷ name)) ++ 
 number_written out name digits =
     append_assoc out (32 ∷ name) digits ∙ ap (λ xs. out ++ xs) (sym (append-nil (32 ∷ (name ++ digits))))
 
+pub number_led : (out name digits : List ℕ) → out ++ ((32 ∷ name) ++ digits) ≡ out ++ led ((name ++ digits) ∷ [])
+number_led out name digits = ap (λ xs. out ++ xs) (sym (append-nil (32 ∷ (name ++ digits))))
+
 pub text_written : (out name text : List ℕ)
     → ((out ++ name) ++ quoted text) ++ 32 ∷ [] ≡ out ++ ended ((name ++ quoted text) ∷ [])
 text_written out name text =

@@ -1,2 +1,3 @@
 pub mod QuotingLemmas
 pub mod JoiningLemmas
+pub mod AppendedLemmas

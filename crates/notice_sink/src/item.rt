@@ -38,8 +38,7 @@ fn put_vector(alloc: Global, events: &[Event], out: &mut Blob) -> Result<(), Mem
 {
     out.push(alloc, b'[')?;
     put_events(alloc, events, out)?;
-    out.push(alloc, b']')?;
-    Ok(())
+    out.push(alloc, b']')
 }
 
 /// Appends the events with single spaces between them.
@@ -53,8 +52,7 @@ fn put_events(alloc: Global, events: &[Event], out: &mut Blob) -> Result<(), Mem
         return Ok(());
     };
     put_event(alloc, first, out)?;
-    put_more_events(alloc, rest, out)?;
-    Ok(())
+    put_more_events(alloc, rest, out)
 }
 
 /// Appends each event after a space.
@@ -77,10 +75,9 @@ fn put_event(alloc: Global, event: &Event, out: &mut Blob) -> Result<(), Memory>
 {
     out.push(alloc, b'{')?;
     put_first_parts(alloc, event, out)?;
-    put_time(alloc, event.time, out)?;
+    put_number(alloc, b"time=", event.time, out)?;
     put_last_parts(alloc, event, out)?;
-    out.push(alloc, b'}')?;
-    Ok(())
+    out.push(alloc, b'}')
 }
 
 /// Appends the fields before the time, each with a space after it.
@@ -92,8 +89,7 @@ fn put_first_parts(alloc: Global, event: &Event, out: &mut Blob) -> Result<(), M
     put_text(alloc, b"host=", &event.host, out)?;
     put_text(alloc, b"service=", &event.service, out)?;
     put_text(alloc, b"state=", &event.state, out)?;
-    put_text(alloc, b"description=", &event.description, out)?;
-    Ok(())
+    put_text(alloc, b"description=", &event.description, out)
 }
 
 /// Appends a field that may be absent, with a space after it.
@@ -102,22 +98,22 @@ fn put_text(alloc: Global, name: &[u8], text: &Option<Text>, out: &mut Blob) -> 
     ensures ok { OnOk result (out.new ≡ out.old ++ ended (text_part name.now text.now)) }
     ensures err { OnErr result (IsPrefix out.old out.new) }
 {
-    if let Some(text) = text {
-        out.append(alloc, name)?;
-        put_quoted(alloc, text, out)?;
-        out.push(alloc, b' ')?;
-    }
-    Ok(())
+    let Some(text) = text else {
+        return Ok(());
+    };
+    out.append(alloc, name)?;
+    put_quoted(alloc, text, out)?;
+    out.push(alloc, b' ')
 }
 
-fn put_time(alloc: Global, time: i64, out: &mut Blob) -> Result<(), Memory>
-    ensures ok { OnOk result (out.new ≡ out.old ++ (codes "time=" ++ signed_decimal time)) }
+/// Appends a number after its name.
+fn put_number(alloc: Global, name: &[u8], number: i64, out: &mut Blob) -> Result<(), Memory>
+    ensures ok { OnOk result (out.new ≡ out.old ++ (name.now ++ signed_decimal number)) }
     ensures err { OnErr result (IsPrefix out.old out.new) }
 {
-    out.append(alloc, b"time=")?;
+    out.append(alloc, name)?;
     let mut digits = Buffer::new();
-    out.append(alloc, digits.format(time).as_bytes())?;
-    Ok(())
+    out.append(alloc, digits.format(number).as_bytes())
 }
 
 /// Appends the fields after the time, each with a space before it.
@@ -129,8 +125,7 @@ fn put_last_parts(alloc: Global, event: &Event, out: &mut Blob) -> Result<(), Me
     put_ttl(alloc, event.ttl, out)?;
     put_metric(alloc, event.metric, out)?;
     put_tags(alloc, event.tags.as_slice(), out)?;
-    put_attributes(alloc, event.attributes.as_slice(), out)?;
-    Ok(())
+    put_attributes(alloc, event.attributes.as_slice(), out)
 }
 
 #[tactic(auto, using(crate::proofs::JoiningLemmas::number_written))]
@@ -138,25 +133,23 @@ fn put_ttl(alloc: Global, ttl: Option<u32>, out: &mut Blob) -> Result<(), Memory
     ensures ok { OnOk result (out.new ≡ out.old ++ led (ttl_part ttl)) }
     ensures err { OnErr result (IsPrefix out.old out.new) }
 {
-    if let Some(ttl) = ttl {
-        out.append(alloc, b" ttl=")?;
-        let mut digits = Buffer::new();
-        out.append(alloc, digits.format(ttl).as_bytes())?;
-    }
-    Ok(())
+    let Some(ttl) = ttl else {
+        return Ok(());
+    };
+    out.append(alloc, b" ttl=")?;
+    let mut digits = Buffer::new();
+    out.append(alloc, digits.format(ttl).as_bytes())
 }
 
-#[tactic(auto, using(crate::proofs::JoiningLemmas::number_written))]
+#[tactic(auto, using(crate::proofs::JoiningLemmas::number_led))]
 fn put_metric(alloc: Global, metric: Option<i64>, out: &mut Blob) -> Result<(), Memory>
     ensures ok { OnOk result (out.new ≡ out.old ++ led (metric_part metric)) }
     ensures err { OnErr result (IsPrefix out.old out.new) }
 {
-    if let Some(metric) = metric {
-        out.append(alloc, b" metric=")?;
-        let mut digits = Buffer::new();
-        out.append(alloc, digits.format(metric).as_bytes())?;
+    match metric {
+        Some(metric) => put_number(alloc, b" metric=", metric, out),
+        None => Ok(()),
     }
-    Ok(())
 }
 
 /// Appends the tags, where there are any.
@@ -171,8 +164,7 @@ fn put_tags(alloc: Global, tags: &[Text], out: &mut Blob) -> Result<(), Memory>
     out.append(alloc, b" tags=[")?;
     put_quoted(alloc, first, out)?;
     put_more_tags(alloc, rest, out)?;
-    out.push(alloc, b']')?;
-    Ok(())
+    out.push(alloc, b']')
 }
 
 /// Appends each tag after a space.
@@ -207,17 +199,16 @@ fn put_attribute(alloc: Global, attribute: &Attr, out: &mut Blob) -> Result<(), 
 {
     out.push(alloc, b'@')?;
     put_quoted(alloc, &attribute.key, out)?;
-    put_value(alloc, &attribute.value, out)?;
-    Ok(())
+    put_value(alloc, &attribute.value, out)
 }
 
 fn put_value(alloc: Global, value: &Option<Text>, out: &mut Blob) -> Result<(), Memory>
     ensures ok { OnOk result (out.new ≡ out.old ++ value_text value.now) }
     ensures err { OnErr result (IsPrefix out.old out.new) }
 {
-    if let Some(text) = value {
-        out.push(alloc, b'=')?;
-        put_quoted(alloc, text, out)?;
-    }
-    Ok(())
+    let Some(text) = value else {
+        return Ok(());
+    };
+    out.push(alloc, b'=')?;
+    put_quoted(alloc, text, out)
 }

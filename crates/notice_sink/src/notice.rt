@@ -1,4 +1,4 @@
-ghost use Rattle.std.specs.Prelude.{◌≡◌, ◌<◌, ◌++◌, length, OnOk, OnErr};
+ghost use Rattle.std.specs.Prelude.{◌≡◌, ◌<◌, [], ◌++◌, length, OnOk, OnErr};
 ghost use Rattle.ports.specs.Writing.{FailsToPut, Puts};
 ghost use Rattle.notice_sink.specs.Lines.{notice_line};
 ghost use Rattle.list_laws.specs.Prefix.{IsPrefix};
@@ -60,12 +60,18 @@ impl NoticeWriter {
             FailsToPut (O.report sink.old) (notice_line notice.now) (O.report sink.new) }
         ensures memory { result ≡ Err LineFault.Memory → sink.new ≡ sink.old }
     {
+        self.clear(alloc);
+        put_line(alloc, notice, &mut self.line)?;
+        put_whole(self.line.as_slice(), sink)
+    }
+
+    /// Removes the line that was written last. Its memory is used again.
+    fn clear(&mut self, alloc: Global)
+        ensures { self.new.line ≡ [] }
+    {
         let mut line = mem::replace(&mut self.line, Blob::fresh(alloc)).into_vec();
         line.clear();
         self.line = Blob::from_vec(line);
-        put_line(alloc, notice, &mut self.line)?;
-        put_whole(self.line.as_slice(), sink)?;
-        Ok(())
     }
 }
 
@@ -81,8 +87,7 @@ fn put_line(alloc: Global, notice: &Notice, out: &mut Blob) -> Result<(), Memory
     put_quoted(alloc, &notice.name, out)?;
     out.push(alloc, b' ')?;
     put_item(alloc, &notice.item, out)?;
-    out.push(alloc, b'\n')?;
-    Ok(())
+    out.push(alloc, b'\n')
 }
 
 /// Puts a line once.
@@ -109,6 +114,5 @@ pub fn write_notice<O: Sink>(alloc: Global, notice: &Notice, sink: &mut O) -> Re
     ensures memory { result ≡ Err LineFault.Memory → sink.new ≡ sink.old }
 {
     let mut writer = NoticeWriter::fresh(alloc);
-    writer.write(alloc, notice, sink)?;
-    Ok(())
+    writer.write(alloc, notice, sink)
 }

@@ -1,4 +1,4 @@
-ghost use Rattle.std.specs.Prelude.{◌≡◌, ◌<◌, ◌≤◌, ◌||◌, ◌++◌, [], length, take, OnOk, OnErr};
+ghost use Rattle.std.specs.Prelude.{◌≡◌, ◌<◌, ◌≤◌, ◌/◌, ◌%◌, ◌||◌, ◌∷◌, ◌++◌, [], length, take, OnOk, OnErr};
 ghost use Rattle.std.specs.List.{flat_map};
 ghost use Rattle.list_laws.specs.Prefix.{IsPrefix};
 ghost use Rattle.notice_sink.specs.Quoting.{hex_digit, is_control, is_escaped, quoted, quoted_byte};
@@ -14,8 +14,7 @@ pub fn put_quoted(alloc: Global, text: &Text, out: &mut Blob) -> Result<(), Memo
 {
     out.push(alloc, b'"')?;
     put_content(alloc, text.as_bytes(), out)?;
-    out.push(alloc, b'"')?;
-    Ok(())
+    out.push(alloc, b'"')
 }
 
 /// Appends what is between the quotes: stretches of plain bytes whole, and the others one by one.
@@ -71,18 +70,22 @@ fn put_byte(alloc: Global, byte: u8, out: &mut Blob) -> Result<(), Memory>
     ensures err { OnErr result (IsPrefix out.old out.new) }
 {
     if is_escaped(byte) {
-        out.append(alloc, &[b'\\', byte])?;
-        return Ok(());
+        out.append(alloc, &[b'\\', byte])
+    } else if is_control(byte) {
+        put_hex(alloc, byte, out)
+    } else {
+        out.push(alloc, byte)
     }
-    if is_control(byte) {
-        out.append(
-            alloc,
-            &[b'\\', b'x', hex_digit(byte / 16), hex_digit(byte % 16)],
-        )?;
-        return Ok(());
-    }
-    out.push(alloc, byte)?;
-    Ok(())
+}
+
+/// Appends `\x` and the two digits of the byte.
+fn put_hex(alloc: Global, byte: u8, out: &mut Blob) -> Result<(), Memory>
+    ensures ok { OnOk result (out.new ≡ out.old
+        ++ (92 ∷ 120 ∷ hex_digit (byte / 16) ∷ hex_digit (byte % 16) ∷ [])) }
+    ensures err { OnErr result (out.new ≡ out.old) }
+{
+    let (high, low) = (hex_digit(byte / 16), hex_digit(byte % 16));
+    out.append(alloc, &[b'\\', b'x', high, low])
 }
 
 fn hex_digit(digit: u8) -> u8
