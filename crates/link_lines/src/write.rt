@@ -49,8 +49,7 @@ pub fn write_link_lines<O: Sink>(
         (O.report out.old).faults }
 {
     let numbers = opened_numbers(alloc, links.script().steps.as_slice())?;
-    write_lines(alloc, numbers.as_slice(), links, out)?;
-    Ok(())
+    write_lines(alloc, numbers.as_slice(), links, out)
 }
 
 /// Writes the lines of these links.
@@ -97,8 +96,7 @@ fn write_line<O: Sink>(
 {
     line.clear();
     push_line(alloc, number, links.taken(number).as_slice(), line)?;
-    put_line(line.as_slice(), out)?;
-    Ok(())
+    put_line(line.as_slice(), out)
 }
 
 /// Appends the line of the link.

@@ -153,9 +153,10 @@ pushed_all before steps start count number i last was =
     sym (append-nil steps) ∙ (ap (λ n. steps ++ event_steps start i n) none ∙ was.whole)
 
 -- the turns of a load, put together one after another
-pub turns_whole : (opened : Step) (events : List Step) (asked ended : Step)
-    → ((([] ++ opened ∷ []) ++ events) ++ asked ∷ []) ++ ended ∷ [] ≡ opened ∷ (events ++ asked ∷ ended ∷ [])
-turns_whole opened events asked ended = ap (λ xs. opened ∷ xs) (append_assoc events (asked ∷ []) (ended ∷ []))
+pub turns_whole : (before : List Step) (opened : Step) (events : List Step) (asked ended : Step) → before ≡ []
+    → (((before ++ opened ∷ []) ++ events) ++ asked ∷ []) ++ ended ∷ [] ≡ opened ∷ (events ++ asked ∷ ended ∷ [])
+turns_whole before opened events asked ended empty =
+    rw empty (ap (λ xs. opened ∷ xs) (append_assoc events (asked ∷ []) (ended ∷ [])))
 
 pub frame_length : (body : List ℕ) → length (frame body) ≡ 4 + length body
 frame_length body =

@@ -34,16 +34,16 @@ pub(crate) fn push_event(
         steps.new ≡ steps.old ++ event_step start i ∷ []) }
 {
     let second = i / 10;
+    let event = load_event(alloc, second, number >> 33)?;
     let mut events = Events::fresh(alloc);
-    events.push(alloc, load_event(alloc, second, number >> 33)?)?;
+    events.push(alloc, event)?;
     let msg = Msg {
         ok: None,
         error: None,
         query: None,
         events,
     };
-    push_read(alloc, second, &msg, steps)?;
-    Ok(())
+    push_read(alloc, second, &msg, steps)
 }
 
 /// Adds the read of the query for all events.
@@ -60,8 +60,7 @@ pub(crate) fn push_query(alloc: Global, second: u64, steps: &mut ScriptSteps) ->
         query: Some(query),
         events: Events::fresh(alloc),
     };
-    push_read(alloc, second, &msg, steps)?;
-    Ok(())
+    push_read(alloc, second, &msg, steps)
 }
 
 /// Adds a read of the message on link 0.

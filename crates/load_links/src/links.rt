@@ -29,7 +29,6 @@ impl Model for LoadLinks {
 
 impl LoadLinks {
     /// The links of a load of `count` events, at most 1,000,000, which are drawn from the number `start`.
-    #[tactic(auto, using(crate::proofs::LoadLemmas::turns_whole))]
     pub fn fresh(alloc: Global, count: u64, start: u64) -> Result<LoadLinks, Memory>
         requires { count ≤ 1000000 }
         ensures script { IfOk result (λ links. links.script ≡ load_script count start) }
@@ -37,10 +36,7 @@ impl LoadLinks {
         ensures poisoned { IfOk result (λ links. links.poisoned ≡ false) }
     {
         let mut steps = ScriptSteps::fresh(alloc);
-        push_turn(alloc, 0, LinkEvent::Opened { link: 0 }, &mut steps)?;
-        push_events(alloc, count, start, &mut steps)?;
-        push_query(alloc, count / 10, &mut steps)?;
-        push_turn(alloc, count / 10, LinkEvent::Ended { link: 0 }, &mut steps)?;
+        push_load(alloc, count, start, &mut steps)?;
         Ok(LoadLinks {
             inner: ScriptLinks::fresh(alloc, Script { start: 0, steps }),
         })
@@ -52,6 +48,19 @@ impl LoadLinks {
     {
         count_frames(self.inner.taken(0).as_slice())
     }
+}
+
+/// Adds all turns of a load to an empty script.
+#[tactic(auto, using(crate::proofs::LoadLemmas::turns_whole))]
+fn push_load(alloc: Global, count: u64, start: u64, steps: &mut ScriptSteps) -> Result<(), Memory>
+    requires count { count ≤ 1000000 }
+    requires empty { steps.old ≡ [] }
+    ensures { OnOk result (steps.new ≡ (load_script count start).steps) }
+{
+    push_turn(alloc, 0, LinkEvent::Opened { link: 0 }, steps)?;
+    push_events(alloc, count, start, steps)?;
+    push_query(alloc, count / 10, steps)?;
+    push_turn(alloc, count / 10, LinkEvent::Ended { link: 0 }, steps)
 }
 
 /// Adds a turn.
