@@ -31,7 +31,7 @@ pub(crate) struct Client {
 }
 
 /// Where a client waits for its next turn.
-#[derive(Clone, Copy, Debug, PartialEq, Eq)]
+#[derive(Clone, Copy, PartialEq, Eq)]
 pub(crate) enum Waiting {
     /// In neither of the two: it waits for a report of the system, or for a send that has to be tried again.
     Nowhere,

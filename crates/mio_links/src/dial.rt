@@ -37,19 +37,22 @@ pub struct Dial {
 impl Dial {
     /// Begins to connect to the first address of `HOST:PORT` with which that can be begun. A host's name is looked up.
     pub(crate) fn begin<R: Net>(rt: &R, alloc: Global, address: &Text) -> Result<Dial, LinksFault> {
-        let poll = Poll::new(rt)?;
-        let mut addresses = VecDeque::new(alloc);
-        for address in address.as_str().to_socket_addrs(rt)? {
-            addresses.push_back(address)?;
-        }
         let mut dial = Dial {
-            poll,
-            addresses,
+            poll: Poll::new(rt)?,
+            addresses: VecDeque::new(alloc),
             begun: None,
             client: None,
         };
-        dial.try_next(rt)?;
+        dial.look_up(rt, address)?;
         Ok(dial)
+    }
+
+    /// Looks up the addresses of `HOST:PORT`, and begins to connect to the first with which that can be begun.
+    fn look_up<R: Net>(&mut self, rt: &R, address: &Text) -> Result<(), LinksFault> {
+        for address in address.as_str().to_socket_addrs(rt)? {
+            self.addresses.push_back(address)?;
+        }
+        self.try_next(rt)
     }
 
     /// Begins to connect to the next address with which that can be begun.

@@ -7,7 +7,7 @@ use std::alloc::Global;
 use std::collections::VecDeque;
 
 /// What may have a turn to give.
-#[derive(Clone, Copy, Debug, PartialEq, Eq)]
+#[derive(Clone, Copy)]
 pub(crate) enum Source {
     Listener,
     Link(u64),

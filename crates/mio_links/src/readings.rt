@@ -5,7 +5,7 @@ ghost use Rattle.mio_links.specs.Readings.{reached_after};
 use ev_types::SECONDS_PER_TURN;
 
 /// The readings of the clock that turns had, in seconds since 1970, as far as they decide whether a turn may wait.
-#[derive(Clone, Copy, Debug, PartialEq, Eq)]
+#[derive(Clone, Copy)]
 pub struct Readings {
     /// The last reading.
     pub last: u64,

@@ -31,7 +31,7 @@ const LINKS_AT_ONCE: usize = 256;
 const LONG_SILENCE: u64 = 600;
 
 /// A link, and the reading of the clock at its last turn.
-#[derive(Clone, Copy, Debug, PartialEq, Eq)]
+#[derive(Clone, Copy)]
 pub(crate) struct Heard {
     pub link: u64,
     pub secs: u64,
