@@ -1,12 +1,11 @@
-use crate::packed::{FULL, LAST, packed};
+use crate::packed::{FULL, LAST, is_text, packed};
 use ev_types::{Event, Field, Memory, Text, Value};
 use event_fields::{EventFields, holds_value};
 use packed_event::PackedEvent;
 use std::alloc::Global;
-use std::test::Fail;
 
 fn has_text<E: EventFields>(event: &E, field: &Field, text: &str) -> bool {
-    event.text_in(field) == Some(text)
+    is_text(event.text_in(field), text)
 }
 
 /// Whether the event holds the texts that [`FULL`] does.
@@ -91,10 +90,9 @@ fn is_packed_full(alloc: Global) -> Result<bool, Memory> {
 }
 
 #[test]
-fn fields_are_read_from_the_bytes(rt: HostRuntime) -> Result<(), Fail> {
-    let is_full = is_packed_full(rt.alloc())?;
-    assert!(rt; is_full);
-    Ok(())
+fn fields_are_read_from_the_bytes(rt: HostRuntime) {
+    let is_full = is_packed_full(rt.alloc());
+    assert!(rt; matches!(is_full, Ok(true)));
 }
 
 /// Whether the event has the fields of [`FULL`] after it was unpacked.
@@ -110,19 +108,24 @@ fn is_unpacked_full(alloc: Global) -> Result<bool, Memory> {
 }
 
 #[test]
-fn fields_of_an_unpacked_event_are_the_same(rt: HostRuntime) -> Result<(), Fail> {
-    let is_full = is_unpacked_full(rt.alloc())?;
-    assert!(rt; is_full);
-    Ok(())
+fn fields_of_an_unpacked_event_are_the_same(rt: HostRuntime) {
+    let is_full = is_unpacked_full(rt.alloc());
+    assert!(rt; matches!(is_full, Ok(true)));
 }
 
 /// Whether the fields are absent that [`LAST`] does not have.
 fn are_absent(last: &PackedEvent) -> bool {
-    last.state() == Some("expired")
+    is_text(last.state(), "expired")
         && last.description().is_none()
         && last.metric().is_none()
         && lacks_text(last, &Field::Host)
         && last.number_in(&Field::Ttl).is_none()
+}
+
+/// Whether that is so for the event of [`LAST`].
+fn are_absent_in_last(alloc: Global) -> Result<bool, Memory> {
+    let last = packed(alloc, LAST)?;
+    Ok(are_absent(&last))
 }
 
 /// Whether an event that owns its parts has no state if none was given.
@@ -132,9 +135,9 @@ fn is_stateless(alloc: Global) -> bool {
 }
 
 #[test]
-fn fields_that_are_absent_are_not_read(rt: HostRuntime) -> Result<(), Fail> {
-    let last = packed(rt.alloc(), LAST)?;
-    assert!(rt; are_absent(&last));
-    assert!(rt; is_stateless(rt.alloc()));
-    Ok(())
+fn fields_that_are_absent_are_not_read(rt: HostRuntime) {
+    let absent = are_absent_in_last(rt.alloc());
+    assert!(rt; matches!(absent, Ok(true)));
+    let stateless = is_stateless(rt.alloc());
+    assert!(rt; stateless);
 }

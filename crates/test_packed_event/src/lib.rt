@@ -1,4 +1,4 @@
-//! Tests of events that are kept as their bytes.
+//! Tests of events that are kept as their bytes, of messages that are nothing but such events, and of an index of them.
 #![tactic(auto)]
 
 #[cfg(test)]
@@ -8,7 +8,11 @@ mod keys;
 #[cfg(test)]
 mod lent;
 #[cfg(test)]
+mod messages;
+#[cfg(test)]
 mod packed;
+#[cfg(test)]
+mod replies;
 #[cfg(test)]
 mod rows;
 #[cfg(test)]

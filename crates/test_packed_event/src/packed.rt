@@ -1,7 +1,6 @@
 use ev_types::{Blob, Event, Memory};
 use packed_event::{PackFault, PackedEvent, PackedRef};
 use std::alloc::Global;
-use std::test::Fail;
 
 /// An event with each field: the state "ok", the service "bb", the host "a", a description, two tags, 60 seconds, an
 /// attribute without a value and one with, 1.5 seconds, -3, and the bits of two numbers.
@@ -19,10 +18,18 @@ pub(crate) fn packed(alloc: Global, bytes: &[u8]) -> Result<PackedEvent, Memory>
     }
 }
 
+/// Whether there is a text, and it is this one.
+pub(crate) fn is_text(text: Option<&str>, wanted: &str) -> bool {
+    match text {
+        Some(text) => text == wanted,
+        None => false,
+    }
+}
+
 /// Whether the parts are those of [`FULL`].
 fn are_of_full(event: &PackedEvent) -> bool {
-    event.host() == Some("a")
-        && event.service() == Some("bb")
+    is_text(event.host(), "a")
+        && is_text(event.service(), "bb")
         && event.time() == 1
         && event.ttl() == Some(60)
         && !event.ends_key()
@@ -51,10 +58,9 @@ fn are_read(alloc: Global) -> Result<bool, Memory> {
 }
 
 #[test]
-fn parts_are_those_of_the_bytes(rt: HostRuntime) -> Result<(), Fail> {
-    let read = are_read(rt.alloc())?;
-    assert!(rt; read);
-    Ok(())
+fn parts_are_those_of_the_bytes(rt: HostRuntime) {
+    let read = are_read(rt.alloc());
+    assert!(rt; matches!(read, Ok(true)));
 }
 
 /// Whether the event is packed as these bytes, and is then the same as the other one, if there is one.
@@ -90,35 +96,32 @@ fn is_full_packed(alloc: Global) -> Result<bool, PackFault> {
 }
 
 #[test]
-fn an_event_is_packed_as_it_is_written(rt: HostRuntime) -> Result<(), Fail> {
-    let packed = is_full_packed(rt.alloc())?;
-    assert!(rt; packed);
-    Ok(())
+fn an_event_is_packed_as_it_is_written(rt: HostRuntime) {
+    let packed = is_full_packed(rt.alloc());
+    assert!(rt; matches!(packed, Ok(true)));
 }
 
 /// Whether the reply with the event of [`FULL`] begins as that is written, and is as long as it is counted.
-fn is_replied(alloc: Global, event: &PackedEvent) -> Result<bool, Memory> {
+fn is_replied(alloc: Global, event: &PackedEvent) -> bool {
     let mut reply = Blob::fresh(alloc);
-    event.put_into(alloc, &mut reply)?;
+    let is_put = event.put_into(alloc, &mut reply).is_ok();
     let len = event.reply_len();
-    Ok(
-        reply.len() == len
-            && len == FULL.len() + 2
-            && reply.as_slice().starts_with(b"\x32\x3b\x08\x01"),
-    )
+    is_put
+        && reply.len() == len
+        && len == FULL.len() + 2
+        && reply.as_slice().starts_with(b"\x32\x3b\x08\x01")
 }
 
 /// Whether the event of [`FULL`] is replied as it is written.
 fn is_full_replied(alloc: Global) -> Result<bool, Memory> {
     let full = packed(alloc, FULL)?;
-    is_replied(alloc, &full)
+    Ok(is_replied(alloc, &full))
 }
 
 #[test]
-fn an_event_is_replied_as_it_is_written(rt: HostRuntime) -> Result<(), Fail> {
-    let replied = is_full_replied(rt.alloc())?;
-    assert!(rt; replied);
-    Ok(())
+fn an_event_is_replied_as_it_is_written(rt: HostRuntime) {
+    let replied = is_full_replied(rt.alloc());
+    assert!(rt; matches!(replied, Ok(true)));
 }
 
 /// Whether the other event, which holds nothing but second 1 as its time, is packed in the block of this one.
@@ -140,10 +143,9 @@ fn is_packed_over_full(alloc: Global) -> Result<bool, PackFault> {
 }
 
 #[test]
-fn another_event_is_packed_in_the_block_of_one(rt: HostRuntime) -> Result<(), Fail> {
-    let packed = is_packed_over_full(rt.alloc())?;
-    assert!(rt; packed);
-    Ok(())
+fn another_event_is_packed_in_the_block_of_one(rt: HostRuntime) {
+    let packed = is_packed_over_full(rt.alloc());
+    assert!(rt; matches!(packed, Ok(true)));
 }
 
 /// The bytes of events that are copied into one after another, each with its service.
@@ -151,7 +153,7 @@ const COPIES: &[(&[u8], &str)] = &[(LAST, "s"), (FULL, "bb")];
 
 /// Whether the event has these bytes and this service.
 fn is_copy(event: &PackedEvent, bytes: &[u8], service: &str) -> bool {
-    event.bytes() == bytes && event.as_ref().bytes() == bytes && event.service() == Some(service)
+    event.bytes() == bytes && event.as_ref().bytes() == bytes && is_text(event.service(), service)
 }
 
 /// Whether the event is then that of these bytes, and has this service.
@@ -180,10 +182,9 @@ fn is_full_copied(alloc: Global) -> Result<bool, Memory> {
 }
 
 #[test]
-fn a_block_is_used_again(rt: HostRuntime) -> Result<(), Fail> {
-    let copied = is_full_copied(rt.alloc())?;
-    assert!(rt; copied);
-    Ok(())
+fn a_block_is_used_again(rt: HostRuntime) {
+    let copied = is_full_copied(rt.alloc());
+    assert!(rt; matches!(copied, Ok(true)));
 }
 
 /// Whether no bytes represent the event.
@@ -218,7 +219,7 @@ fn are_refused(alloc: Global) -> bool {
 }
 
 #[test]
-fn an_event_that_no_bytes_represent_is_refused(rt: HostRuntime) -> Result<(), Fail> {
-    assert!(rt; are_refused(rt.alloc()));
-    Ok(())
+fn an_event_that_no_bytes_represent_is_refused(rt: HostRuntime) {
+    let refused = are_refused(rt.alloc());
+    assert!(rt; refused);
 }

@@ -1,5 +1,4 @@
 use packed_event::{Places, Span, places_of};
-use std::test::Fail;
 
 /// An event that holds nothing but its time.
 const BARE: Places = Places {
@@ -100,26 +99,18 @@ const OTHERS: &[&[u8]] = &[
     b"\x08\x01\x7d\x01\x02\x03\x04\x00",
 ];
 
-/// The number of the first row whose places are others.
-fn first_that_differs(rows: &[(&[u8], Places)]) -> Option<usize> {
-    rows.iter().position(|row| places_of(row.0) != Some(row.1))
-}
-
-/// The number of the first row that is recognised.
-fn first_recognised(rows: &[&[u8]]) -> Option<usize> {
-    rows.iter().position(|bytes| places_of(bytes).is_some())
+#[test]
+fn places_are_those_of_the_parts(rt: HostRuntime) {
+    for (number, (bytes, places)) in WRITTEN.iter().enumerate() {
+        let same = places_of(bytes) == Some(*places);
+        assert!(rt; same, "row {number}");
+    }
 }
 
 #[test]
-fn places_are_those_of_the_parts(rt: HostRuntime) -> Result<(), Fail> {
-    let differs = first_that_differs(WRITTEN);
-    assert!(rt; differs == None, "row {differs:?}");
-    Ok(())
-}
-
-#[test]
-fn bytes_that_are_written_otherwise_are_left(rt: HostRuntime) -> Result<(), Fail> {
-    let recognised = first_recognised(OTHERS);
-    assert!(rt; recognised == None, "row {recognised:?}");
-    Ok(())
+fn bytes_that_are_written_otherwise_are_left(rt: HostRuntime) {
+    for (number, bytes) in OTHERS.iter().enumerate() {
+        let left = places_of(bytes).is_none();
+        assert!(rt; left, "row {number}");
+    }
 }

@@ -2,7 +2,6 @@ use ev_types::Memory;
 use packed_event::PackedRef;
 use packed_msg::{plain_event, plain_events};
 use std::alloc::Global;
-use std::test::Fail;
 
 /// Messages, each with the times of its events if it is nothing but events that are spelled as this server writes them.
 const ROWS: &[(&[u8], Option<&[i64]>)] = &[
@@ -32,13 +31,20 @@ const ROWS: &[(&[u8], Option<&[i64]>)] = &[
 ];
 
 /// Whether the message has events of these times.
-fn has_times(alloc: Global, message: &[u8], times: Option<&[i64]>) -> Result<bool, Memory> {
-    let events = plain_events(alloc, message)?;
-    Ok(match (events, times) {
-        (Some(events), Some(times)) => is_timed(&events, times),
-        (None, None) => true,
-        _ => false,
-    })
+fn has_times(alloc: Global, message: &[u8], times: Option<&[i64]>) -> bool {
+    match plain_events(alloc, message) {
+        Ok(Some(events)) => is_timed_so(&events, times),
+        Ok(None) => times.is_none(),
+        Err(Memory) => false,
+    }
+}
+
+/// Whether there are times, and they are those of the events.
+fn is_timed_so(events: &[PackedRef<'_>], times: Option<&[i64]>) -> bool {
+    match times {
+        Some(times) => is_timed(events, times),
+        None => false,
+    }
 }
 
 /// Whether these are the times of the events.
@@ -50,27 +56,28 @@ fn is_timed(events: &[PackedRef<'_>], times: &[i64]) -> bool {
             .all(|(event, time)| event.time() == *time)
 }
 
+/// Whether this is the only one of the times.
+fn is_time(time: i64, times: Option<&[i64]>) -> bool {
+    match times {
+        Some([only]) => *only == time,
+        _ => false,
+    }
+}
+
 /// Whether the message is found to be one event exactly if it has one time.
 fn has_time(message: &[u8], times: Option<&[i64]>) -> bool {
-    match (plain_event(message), times) {
-        (Some(event), Some([time])) => event.time() == *time,
-        (Some(_), _) | (None, Some([_])) => false,
-        (None, _) => true,
+    match plain_event(message) {
+        Some(event) => is_time(event.time(), times),
+        None => !matches!(times, Some([_])),
     }
 }
 
 #[test]
-fn events_are_those_of_the_message(rt: HostRuntime) -> Result<(), Fail> {
+fn events_are_those_of_the_message_and_one_is_found_alone(rt: HostRuntime) {
     for (number, (message, times)) in ROWS.iter().enumerate() {
-        let same = has_times(rt.alloc(), message, *times)?;
+        let same = has_times(rt.alloc(), message, *times);
         assert!(rt; same, "row {number}");
+        let alone = has_time(message, *times);
+        assert!(rt; alone, "row {number} alone");
     }
-    Ok(())
-}
-
-#[test]
-fn an_event_is_found_alone(rt: HostRuntime) -> Result<(), Fail> {
-    let differs = ROWS.iter().position(|row| !has_time(row.0, row.1));
-    assert!(rt; differs == None, "row {differs:?}");
-    Ok(())
 }

@@ -1,5 +1,0 @@
-//! Tests of messages that are nothing but events.
-#![tactic(auto)]
-
-#[cfg(test)]
-mod plain;
