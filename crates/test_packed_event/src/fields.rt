@@ -31,25 +31,22 @@ fn attribute(alloc: Global, name: &str) -> Result<Field, Memory> {
 }
 
 /// Whether the event has this text in the field.
-fn holds_text<E: EventFields>(
-    alloc: Global,
-    event: &E,
-    field: &Field,
-    text: &str,
-) -> Result<bool, Memory> {
-    let value = Value::Text(Text::from_str(alloc, text)?);
-    Ok(has_text(event, field, text) && holds_value(event, field, &value))
+fn holds_text<E: EventFields>(alloc: Global, event: &E, field: &Field, text: &str) -> bool {
+    match Text::from_str(alloc, text) {
+        Ok(value) => {
+            let holds = holds_value(event, field, &Value::Text(value));
+            holds && has_text(event, field, text)
+        }
+        Err(Memory) => false,
+    }
 }
 
 /// Whether the event has an attribute of this name with this text.
-fn has_attribute<E: EventFields>(
-    alloc: Global,
-    event: &E,
-    name: &str,
-    text: &str,
-) -> Result<bool, Memory> {
-    let field = attribute(alloc, name)?;
-    holds_text(alloc, event, &field, text)
+fn has_attribute<E: EventFields>(alloc: Global, event: &E, name: &str, text: &str) -> bool {
+    match attribute(alloc, name) {
+        Ok(field) => holds_text(alloc, event, &field, text),
+        Err(Memory) => false,
+    }
 }
 
 /// Whether the event has no text in the field.
@@ -58,9 +55,11 @@ fn lacks_text<E: EventFields>(event: &E, field: &Field) -> bool {
 }
 
 /// Whether the event has no attribute of this name with a value.
-fn lacks_attribute<E: EventFields>(alloc: Global, event: &E, name: &str) -> Result<bool, Memory> {
-    let field = attribute(alloc, name)?;
-    Ok(lacks_text(event, &field) && holds_value(event, &field, &Value::Nil))
+fn lacks_attribute<E: EventFields>(alloc: Global, event: &E, name: &str) -> bool {
+    match attribute(alloc, name) {
+        Ok(field) => lacks_text(event, &field) && holds_value(event, &field, &Value::Nil),
+        Err(Memory) => false,
+    }
 }
 
 fn has_tag<E: EventFields>(alloc: Global, event: &E, tag: &str) -> Result<bool, Memory> {
@@ -69,24 +68,24 @@ fn has_tag<E: EventFields>(alloc: Global, event: &E, tag: &str) -> Result<bool, 
 }
 
 /// Whether the event has the attributes and the tags that [`FULL`] does.
-fn has_lists<E: EventFields>(alloc: Global, event: &E) -> Result<bool, Memory> {
-    let k = has_attribute(alloc, event, "k", "v")?;
-    let l = lacks_attribute(alloc, event, "l")?;
-    let tagged = has_tag(alloc, event, "t")?;
-    let others = has_tag(alloc, event, "k")?;
-    Ok(k && l && tagged && !others)
+fn has_lists<E: EventFields>(alloc: Global, event: &E) -> bool {
+    let k = has_attribute(alloc, event, "k", "v");
+    let l = lacks_attribute(alloc, event, "l");
+    let tagged = matches!(has_tag(alloc, event, "t"), Ok(true));
+    let untagged = matches!(has_tag(alloc, event, "k"), Ok(false));
+    k && l && tagged && untagged
 }
 
 /// Whether the event holds what [`FULL`] does in each field.
-fn is_full<E: EventFields>(alloc: Global, event: &E) -> Result<bool, Memory> {
-    let has_lists = has_lists(alloc, event)?;
-    Ok(has_lists && has_texts(event) && has_numbers(event))
+fn is_full<E: EventFields>(alloc: Global, event: &E) -> bool {
+    let has_lists = has_lists(alloc, event);
+    has_lists && has_texts(event) && has_numbers(event)
 }
 
 /// Whether the fields of [`FULL`] are read from its bytes.
 fn is_packed_full(alloc: Global) -> Result<bool, Memory> {
     let full = packed(alloc, FULL)?;
-    is_full(alloc, &full)
+    Ok(is_full(alloc, &full))
 }
 
 #[test]
@@ -98,7 +97,7 @@ fn fields_are_read_from_the_bytes(rt: HostRuntime) {
 /// Whether the event has the fields of [`FULL`] after it was unpacked.
 fn is_full_unpacked(alloc: Global, packed: &PackedEvent) -> Result<bool, Memory> {
     let event = packed.unpack(alloc)?;
-    is_full(alloc, &event)
+    Ok(is_full(alloc, &event))
 }
 
 /// Whether the event of [`FULL`] has the same fields after it was unpacked.
