@@ -57,17 +57,16 @@ fn full_event(alloc: Global) -> Event {
 }
 
 /// A value in a row.
-#[derive(Clone, Copy)]
 enum Row<'a> {
     Nil,
     Number(i64),
     Text(&'a str),
 }
 
-fn value(alloc: Global, row: Row) -> Result<Value, Memory> {
+fn value(alloc: Global, row: &Row) -> Result<Value, Memory> {
     match row {
         Row::Nil => Ok(Value::Nil),
-        Row::Number(number) => Ok(Value::Number(number)),
+        Row::Number(number) => Ok(Value::Number(*number)),
         Row::Text(chars) => Ok(Value::Text(Text::from_str(alloc, chars)?)),
     }
 }
@@ -88,7 +87,7 @@ fn push_value(alloc: Global, sets: &mut Sets, name: &str, value: Value) -> Resul
     }
 }
 
-fn push_set(alloc: Global, sets: &mut Sets, name: &str, row: Row) -> Result<(), Memory> {
+fn push_set(alloc: Global, sets: &mut Sets, name: &str, row: &Row) -> Result<(), Memory> {
     match value(alloc, row) {
         Ok(value) => push_value(alloc, sets, name, value),
         Err(Memory) => Err(Memory),
@@ -97,7 +96,7 @@ fn push_set(alloc: Global, sets: &mut Sets, name: &str, row: Row) -> Result<(), 
 
 fn push_sets(alloc: Global, sets: &mut Sets, rows: &[(&str, Row)]) -> Result<(), Memory> {
     for row in rows {
-        push_set(alloc, sets, row.0, row.1)?;
+        push_set(alloc, sets, row.0, &row.1)?;
     }
     Ok(())
 }
