@@ -1,4 +1,5 @@
-//! Tests of the ends to the outside, by their public calls: stores, sinks, links, notice lines, sockets and loads.
+//! Tests of the ends to the outside, by their public calls: stores, sinks, links, notice lines, sockets and loads. Links
+//! that play a script are called by themselves, and their lines say what they were sent.
 #![tactic(auto)]
 
 #[cfg(test)]
@@ -9,6 +10,8 @@ mod links;
 mod load;
 #[cfg(test)]
 mod notices;
+#[cfg(test)]
+mod scripts;
 #[cfg(test)]
 mod silence;
 #[cfg(test)]

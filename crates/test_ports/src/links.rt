@@ -1,4 +1,5 @@
-use ev_types::{Blob, Memory, Text};
+use crate::sockets::listen_on;
+use ev_types::{Blob, Memory};
 use ports::{
     FaultLinks, Links, ListenAnswer, PIECE_LIMIT, ScriptLinks, Turn, Wants, What, feed_links,
 };
@@ -41,26 +42,28 @@ fn is_fed(alloc: Global, count: usize, wanted: &[What]) -> bool {
     }
 }
 
+const TWO_PIECES: &[What] = &[
+    What::Opened { link: 0 },
+    What::Read {
+        link: 0,
+        count: 65_536,
+    },
+    What::Read { link: 0, count: 1 },
+    What::Ended { link: 0 },
+    What::Stopped,
+    What::Stopped,
+];
+
+const NO_PIECE: &[What] = &[
+    What::Opened { link: 0 },
+    What::Ended { link: 0 },
+    What::Stopped,
+];
+
 #[test]
 fn a_file_is_fed_in_pieces(rt: HostRuntime) {
-    let whole = [
-        What::Opened { link: 0 },
-        What::Read {
-            link: 0,
-            count: 65_536,
-        },
-        What::Read { link: 0, count: 1 },
-        What::Ended { link: 0 },
-        What::Stopped,
-        What::Stopped,
-    ];
-    assert!(rt; is_fed(rt.alloc(), 65_537, &whole));
-    let empty = [
-        What::Opened { link: 0 },
-        What::Ended { link: 0 },
-        What::Stopped,
-    ];
-    assert!(rt; is_fed(rt.alloc(), 0, &empty));
+    assert!(rt; is_fed(rt.alloc(), 65_537, TWO_PIECES));
+    assert!(rt; is_fed(rt.alloc(), 0, NO_PIECE));
 }
 
 /// Links that feed nothing, of whose calls the first and the third fail.
@@ -69,26 +72,22 @@ fn failing(alloc: Global) -> Result<FaultLinks, Memory> {
     Ok(FaultLinks::fresh(feeding(alloc, 0)?, numbers))
 }
 
-/// Whether the links fail to listen.
-fn is_refused(alloc: Global, links: &mut FaultLinks) -> Result<bool, Memory> {
-    let address = Text::from_str(alloc, "h:1")?;
-    Ok(links.listen(alloc, &address) == ListenAnswer::Failed)
-}
+const ONE_FAILS: &[What] = &[
+    What::Opened { link: 0 },
+    What::Failed,
+    What::Ended { link: 0 },
+];
 
 /// Whether the chosen calls fail.
-fn fail(alloc: Global, links: &mut FaultLinks) -> Result<bool, Memory> {
-    let turns = [
-        What::Opened { link: 0 },
-        What::Failed,
-        What::Ended { link: 0 },
-    ];
-    Ok(is_refused(alloc, links)? && are_next(alloc, links, &turns)? && links.faults == 2)
+fn fail(alloc: Global, links: &mut FaultLinks) -> bool {
+    let refused = listen_on(alloc, links, "h:1") == ListenAnswer::Failed;
+    refused && matches!(are_next(alloc, links, ONE_FAILS), Ok(true)) && links.faults == 2
 }
 
 /// Whether two calls of links fail that were chosen by their numbers.
 fn are_failing(alloc: Global) -> bool {
     match failing(alloc) {
-        Ok(mut links) => matches!(fail(alloc, &mut links), Ok(true)),
+        Ok(mut links) => fail(alloc, &mut links),
         Err(Memory) => false,
     }
 }

@@ -1,19 +1,34 @@
-use ev_types::{Memory, Text};
+use crate::sockets::listen_on;
 use load_links::LoadLinks;
 use ports::{Links, ListenAnswer, PIECE_LIMIT, SendAnswer, Turn, Wants, What};
 use std::alloc::{AllocError, Global};
 use std::test::Fail;
 
-/// A letter for each kind of turn that a load has, a capital one in second 1.
-fn letter(turn: &Turn) -> &'static str {
-    match (turn.secs, turn.what) {
-        (0, What::Opened { link: 0 }) => "o",
-        (0, What::Read { link: 0, .. }) => "r",
-        (0, What::Ended { link: 0 }) => "e",
-        (0, What::Stopped) => "s",
-        (1, What::Read { link: 0, .. }) => "R",
-        (1, What::Ended { link: 0 }) => "E",
-        (1, What::Stopped) => "S",
+/// A letter for each kind of turn that a load has in second 0.
+fn first_letter(what: What) -> &'static str {
+    match what {
+        What::Opened { link: 0 } => "o",
+        What::Read { link: 0, .. } => "r",
+        What::Ended { link: 0 } => "e",
+        What::Stopped => "s",
+        _ => "?",
+    }
+}
+
+/// The same in second 1, with capital letters.
+fn second_letter(what: What) -> &'static str {
+    match what {
+        What::Read { link: 0, .. } => "R",
+        What::Ended { link: 0 } => "E",
+        What::Stopped => "S",
+        _ => "?",
+    }
+}
+
+fn letter(turn: Turn) -> &'static str {
+    match turn.secs {
+        0 => first_letter(turn.what),
+        1 => second_letter(turn.what),
         _ => "?",
     }
 }
@@ -26,12 +41,16 @@ struct Turns {
 }
 
 impl Turns {
+    /// Adds a turn, after which the buffer of the links is `buf`.
     fn put(&mut self, turn: Turn, buf: &[u8]) -> Result<(), AllocError> {
-        self.letters.push_str(letter(&turn))?;
-        if let What::Read { count, .. } = turn.what {
-            self.bytes.extend_from_slice(&buf[..count.min(buf.len())])?;
+        self.letters.push_str(letter(turn))?;
+        match turn.what {
+            What::Read { count, .. } => {
+                let (bytes, _) = buf.split_at(count.min(buf.len()));
+                self.bytes.extend_from_slice(bytes)
+            }
+            _ => Ok(()),
         }
-        Ok(())
     }
 
     /// Adds the next `count` turns of a load.
@@ -42,49 +61,49 @@ impl Turns {
         buf: &mut [u8],
         count: u64,
     ) -> Result<(), AllocError> {
+        let wants = Wants::fresh(alloc);
         for _ in 0..count {
             if buf.len() == PIECE_LIMIT {
-                let turn = links.next(alloc, &Wants::fresh(alloc), buf);
+                let turn = links.next(alloc, &wants, buf);
                 self.put(turn, buf)?;
             }
         }
         Ok(())
     }
 
-    /// Whether the turns are these, and the bytes those of the digits.
-    fn are(&self, alloc: Global, letters: &str, digits: &str) -> Result<bool, Fail> {
-        let bytes = hex::encode(alloc, self.bytes.as_slice())?;
-        Ok(self.letters.as_str() == letters && bytes.as_str() == digits)
+    /// Whether the turns are these.
+    fn are(&self, letters: &str) -> bool {
+        self.letters.as_str() == letters
+    }
+
+    /// Whether the bytes are those of the digits.
+    fn have_bytes(&self, alloc: Global, digits: &str) -> bool {
+        match hex::encode(alloc, self.bytes.as_slice()) {
+            Ok(bytes) => bytes.as_str() == digits,
+            Err(_) => false,
+        }
     }
 }
 
-/// The first `count` turns of a load.
-fn turns_of(alloc: Global, links: &mut LoadLinks, count: u64) -> Result<Turns, AllocError> {
+/// Plays the first `count` turns of a load.
+fn play(
+    alloc: Global,
+    links: &mut LoadLinks,
+    turns: &mut Turns,
+    count: u64,
+) -> Result<(), AllocError> {
     let mut buf = vec![in alloc; 0; 65_536]?;
+    turns.take(alloc, links, buf.as_mut_slice(), count)
+}
+
+/// Whether the first `count` turns of a load are these, and their bytes those of the digits.
+fn gives(alloc: Global, links: &mut LoadLinks, count: u64, letters: &str, digits: &str) -> bool {
     let mut turns = Turns {
         letters: String::new(alloc),
         bytes: Vec::new(alloc),
     };
-    turns.take(alloc, links, buf.as_mut_slice(), count)?;
-    Ok(turns)
-}
-
-/// Whether the first `count` turns of a load are these, and their bytes those of the digits.
-fn gives(
-    alloc: Global,
-    links: &mut LoadLinks,
-    count: u64,
-    letters: &str,
-    digits: &str,
-) -> Result<bool, Fail> {
-    let turns = turns_of(alloc, links, count)?;
-    turns.are(alloc, letters, digits)
-}
-
-/// Whether the links are ready to listen at second 0.
-fn listens(alloc: Global, links: &mut LoadLinks) -> Result<bool, Memory> {
-    let address = Text::from_str(alloc, "h:1")?;
-    Ok(links.listen(alloc, &address) == ListenAnswer::Ready { secs: 0 })
+    let played = play(alloc, links, &mut turns, count).is_ok();
+    played && turns.are(letters) && turns.have_bytes(alloc, digits)
 }
 
 /// The bytes of nine events of second 0, two of second 1 and a query.
@@ -104,8 +123,9 @@ const ALL_DIGITS: &str = "000000133211080012026f6b1a0273322202683868f40c\
 #[test]
 fn a_load_gives_its_turns(rt: HostRuntime) -> Result<(), Fail> {
     let mut links = LoadLinks::fresh(rt.alloc(), 11, 7)?;
-    assert!(rt; matches!(listens(rt.alloc(), &mut links), Ok(true)));
-    assert!(rt; gives(rt.alloc(), &mut links, 16, "orrrrrrrrrRRRESS", ALL_DIGITS)?);
+    let answer = listen_on(rt.alloc(), &mut links, "h:1");
+    assert!(rt; answer == ListenAnswer::Ready { secs: 0 });
+    assert!(rt; gives(rt.alloc(), &mut links, 16, "orrrrrrrrrRRRESS", ALL_DIGITS));
     Ok(())
 }
 
@@ -121,7 +141,7 @@ fn is_counted(alloc: Global, links: &mut LoadLinks, text: &str, replies: u64) ->
 fn a_load_counts_its_replies(rt: HostRuntime) -> Result<(), Fail> {
     let mut links = LoadLinks::fresh(rt.alloc(), 1, u64::MAX)?;
     let digits = "000000133211080012026f6b1a0273332202683868f40b000000082a060a0474727565";
-    assert!(rt; gives(rt.alloc(), &mut links, 5, "orres", digits)?);
+    assert!(rt; gives(rt.alloc(), &mut links, 5, "orres", digits));
     let replies = "\0\0\0\x02\x10\x01\0\0\0\x02\x10\x01\0\0\0\x02\x10";
     assert!(rt; is_counted(rt.alloc(), &mut links, replies, 2));
     assert!(rt; is_counted(rt.alloc(), &mut links, "\x01", 3));

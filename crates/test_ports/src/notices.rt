@@ -4,17 +4,16 @@ use ports::{CountSink, MemSink};
 use std::alloc::Global;
 use std::test::Fail;
 
-/// How a vector without events is written.
-fn empty_vector(alloc: Global) -> Result<Blob, Memory> {
+/// Whether a vector without events is written as two brackets.
+fn is_two_brackets(alloc: Global) -> bool {
     let mut out = Blob::fresh(alloc);
-    put_item(alloc, &Item::Many(Events::fresh(alloc)), &mut out)?;
-    Ok(out)
+    let put = put_item(alloc, &Item::Many(Events::fresh(alloc)), &mut out).is_ok();
+    put && out.as_slice() == b"[]".as_slice()
 }
 
 #[test]
-fn an_empty_vector_is_two_brackets(rt: HostRuntime) -> Result<(), Fail> {
-    assert!(rt; empty_vector(rt.alloc())?.as_slice() == b"[]".as_slice());
-    Ok(())
+fn an_empty_vector_is_two_brackets(rt: HostRuntime) {
+    assert!(rt; is_two_brackets(rt.alloc()));
 }
 
 /// A notice of one event.

@@ -66,59 +66,87 @@ fn turn_of<L: Links>(
     }
 }
 
-/// A client that opens this link, after all those of smaller numbers.
-fn client<R: Net + Clock>(
+/// Adds a client that opens this link, after all those of smaller numbers. Answers whether it did.
+fn add_client<R: Net + Clock>(
     rt: &R,
     alloc: Global,
     links: &mut MioLinks<'_, R>,
     address: &str,
     buf: &mut [u8],
     link: u64,
-) -> Result<R::Stream, Fail> {
-    let client = TcpStream::connect(rt, address)?;
-    if turn_of(alloc, links, buf, link, link) == (What::Opened { link }) {
-        Ok(client)
-    } else {
-        Err(Fail::from("not opened"))
+    clients: &mut Vec<R::Stream>,
+) -> bool {
+    match TcpStream::connect(rt, address) {
+        Ok(client) => {
+            clients.push(client).is_ok()
+                && turn_of(alloc, links, buf, link, link) == (What::Opened { link })
+        }
+        Err(_) => false,
     }
 }
 
-/// Connects 256 clients, each of which opens a link.
+/// Connects 256 clients. Answers whether each opens a link.
 fn fill<R: Net + Clock>(
     rt: &R,
     alloc: Global,
     links: &mut MioLinks<'_, R>,
     address: &str,
     buf: &mut [u8],
-) -> Result<Vec<R::Stream>, Fail> {
-    let mut clients = Vec::new(alloc);
+    clients: &mut Vec<R::Stream>,
+) -> bool {
     for link in 0..256u64 {
-        clients.push(client(rt, alloc, links, address, buf, link)?)?;
+        if !add_client(rt, alloc, links, address, buf, link, clients) {
+            return false;
+        }
     }
-    Ok(clients)
+    true
 }
 
-/// Connects one more client, whose link is closed again.
+/// Connects one more client, whose link is closed again. Answers whether it opened one.
 fn open_one_more<R: Net + Clock>(
     rt: &R,
     alloc: Global,
     links: &mut MioLinks<'_, R>,
     address: &str,
     buf: &mut [u8],
-) -> Result<(), Fail> {
-    let client = client(rt, alloc, links, address, buf, 256)?;
+) -> bool {
+    let client = TcpStream::connect(rt, address);
+    let opened = turn_of(alloc, links, buf, 256, 256) == (What::Opened { link: 256 });
     links.close(256);
-    drop(client);
-    Ok(())
+    client.is_ok() && opened
 }
 
-/// The first client sends a byte.
-fn send_byte<S: Write>(clients: &mut [S]) -> Result<(), Fail> {
-    let Some(first) = clients.first_mut() else {
-        return Err(Fail::from("no client"));
-    };
-    first.write_all(b"x")?;
-    Ok(())
+/// The first client sends a byte. Answers whether it can.
+fn send_byte<S: Write>(clients: &mut [S]) -> bool {
+    match clients.first_mut() {
+        Some(first) => first.write_all(b"x").is_ok(),
+        None => false,
+    }
+}
+
+/// Whether the client of link 0 is heard, after one more link was opened and closed.
+fn is_first_heard<R: Net + Clock, S: Write>(
+    rt: &R,
+    alloc: Global,
+    links: &mut MioLinks<'_, R>,
+    address: &str,
+    buf: &mut [u8],
+    clients: &mut [S],
+) -> bool {
+    open_one_more(rt, alloc, links, address, buf)
+        && send_byte(clients)
+        && turn_of(alloc, links, buf, 256, 256) == (What::Read { link: 0, count: 1 })
+}
+
+/// Whether link 1 is given up for a client that waits, which then opens the next link.
+fn is_room_made<R: Net + Clock>(
+    alloc: Global,
+    links: &mut MioLinks<'_, R>,
+    buf: &mut [u8],
+) -> bool {
+    let broken = turn_of(alloc, links, buf, 256, 256) == (What::Broken { link: 1 });
+    links.close(1);
+    broken && turn_of(alloc, links, buf, 256, 1) == (What::Opened { link: 257 })
 }
 
 /// Whether link 1 is given up for one more client.
@@ -128,13 +156,9 @@ fn is_second_given_up<R: Net + Clock>(
     links: &mut MioLinks<'_, R>,
     address: &str,
     buf: &mut [u8],
-) -> io::Result<bool> {
-    let late = TcpStream::connect(rt, address)?;
-    let broken = turn_of(alloc, links, buf, 256, 256) == (What::Broken { link: 1 });
-    links.close(1);
-    let opened = turn_of(alloc, links, buf, 256, 1) == (What::Opened { link: 257 });
-    drop(late);
-    Ok(broken && opened)
+) -> bool {
+    let late = TcpStream::connect(rt, address);
+    late.is_ok() && is_room_made(alloc, links, buf)
 }
 
 /// Whether link 1 is given up after ten minutes, and no link a second before, where the client of link 0 was heard.
@@ -145,14 +169,11 @@ fn is_given_up_late<'b, R: Net, S: Write>(
     address: &str,
     buf: &mut [u8],
     clients: &mut [S],
-) -> Result<bool, Fail> {
+) -> bool {
     clock.secs.set(599);
-    open_one_more(clock, alloc, links, address, buf)?;
-    send_byte(clients)?;
-    let heard = turn_of(alloc, links, buf, 256, 256) == (What::Read { link: 0, count: 1 });
+    let heard = is_first_heard(clock, alloc, links, address, buf, clients);
     clock.secs.set(600);
-    let given_up = is_second_given_up(clock, alloc, links, address, buf)?;
-    Ok(heard && given_up)
+    heard && is_second_given_up(clock, alloc, links, address, buf)
 }
 
 /// Whether one of 256 silent links is given up in time.
@@ -162,9 +183,10 @@ fn is_one_given_up<'b, R: Net>(
     links: &mut MioLinks<'_, SetClock<'b, R>>,
     address: &str,
     buf: &mut [u8],
-) -> Result<bool, Fail> {
-    let mut clients = fill(clock, alloc, links, address, buf)?;
-    is_given_up_late(clock, alloc, links, address, buf, clients.as_mut_slice())
+) -> bool {
+    let mut clients = Vec::new(alloc);
+    fill(clock, alloc, links, address, buf, &mut clients)
+        && is_given_up_late(clock, alloc, links, address, buf, clients.as_mut_slice())
 }
 
 /// Whether a link is given up for its silence after ten minutes, and not a second before.
@@ -172,10 +194,18 @@ fn is_given_up<'b, R: Net>(
     clock: &SetClock<'b, R>,
     alloc: Global,
     links: &mut MioLinks<'_, SetClock<'b, R>>,
-) -> Result<bool, Fail> {
+) -> Result<bool, Memory> {
     let mut buf = vec![in alloc; 0; 65_536]?;
-    let address = listen(alloc, links)?;
-    is_one_given_up(clock, alloc, links, address.as_str(), buf.as_mut_slice())
+    match listen(alloc, links) {
+        Some(address) => Ok(is_one_given_up(
+            clock,
+            alloc,
+            links,
+            address.as_str(),
+            buf.as_mut_slice(),
+        )),
+        None => Ok(false),
+    }
 }
 
 #[test]
@@ -185,7 +215,7 @@ fn the_link_that_was_silent_longest_makes_room(rt: HostRuntime) -> Result<(), Fa
         secs: Cell::new(0),
     };
     let mut links = MioLinks::fresh(&clock, rt.alloc())?;
-    assert!(rt; is_given_up(&clock, rt.alloc(), &mut links)?);
+    assert!(rt; matches!(is_given_up(&clock, rt.alloc(), &mut links), Ok(true)));
     Ok(())
 }
 
@@ -199,24 +229,25 @@ fn are_refused(rows: &[(u32, Refusal)]) -> bool {
     true
 }
 
+const REFUSALS: &[(u32, Refusal)] = &[
+    (1, Refusal::Lack),
+    (4, Refusal::OneConnection),
+    (9, Refusal::Listener),
+    (11, Refusal::NoneWaits),
+    (12, Refusal::Lack),
+    (22, Refusal::Listener),
+    (23, Refusal::Lack),
+    (24, Refusal::Lack),
+    (71, Refusal::OneConnection),
+    (103, Refusal::OneConnection),
+    (105, Refusal::Lack),
+    (113, Refusal::OneConnection),
+    (114, Refusal::Listener),
+];
+
 #[test]
 fn only_a_failure_of_the_listener_ends_the_server(rt: HostRuntime) {
-    let rows = [
-        (1, Refusal::Lack),
-        (4, Refusal::OneConnection),
-        (9, Refusal::Listener),
-        (11, Refusal::NoneWaits),
-        (12, Refusal::Lack),
-        (22, Refusal::Listener),
-        (23, Refusal::Lack),
-        (24, Refusal::Lack),
-        (71, Refusal::OneConnection),
-        (103, Refusal::OneConnection),
-        (105, Refusal::Lack),
-        (113, Refusal::OneConnection),
-        (114, Refusal::Listener),
-    ];
-    assert!(rt; are_refused(&rows));
+    assert!(rt; are_refused(REFUSALS));
 }
 
 /// Whether the clock is far ahead after each of these readings, as given.
@@ -231,16 +262,17 @@ fn are_ahead(first: u64, rows: &[(u64, bool)]) -> bool {
     true
 }
 
+const READINGS: &[(u64, bool)] = &[
+    (3_600, false),
+    (10_800, false),
+    (10_801, false),
+    (18_002, true),
+    (18_002, false),
+    (5, false),
+    (u64::MAX, true),
+];
+
 #[test]
 fn a_turn_waits_unless_the_clock_is_over_an_hour_ahead(rt: HostRuntime) {
-    let rows = [
-        (3_600, false),
-        (10_800, false),
-        (10_801, false),
-        (18_002, true),
-        (18_002, false),
-        (5, false),
-        (u64::MAX, true),
-    ];
-    assert!(rt; are_ahead(0, &rows));
+    assert!(rt; are_ahead(0, READINGS));
 }

@@ -23,37 +23,36 @@ fn both(alloc: Global) -> Result<Wants, Memory> {
 }
 
 /// What the links answer when they are to listen on the address.
-pub(crate) fn listen_on<L: Links>(
-    alloc: Global,
-    links: &mut L,
-    address: &str,
-) -> Result<ListenAnswer, Memory> {
-    let address = Text::from_str(alloc, address)?;
-    Ok(links.listen(alloc, &address))
+pub(crate) fn listen_on<L: Links>(alloc: Global, links: &mut L, address: &str) -> ListenAnswer {
+    match Text::from_str(alloc, address) {
+        Ok(address) => links.listen(alloc, &address),
+        Err(Memory) => ListenAnswer::Memory,
+    }
 }
 
 /// Whether the links are ready when they are to listen on the address.
 pub(crate) fn is_ready<L: Links>(alloc: Global, links: &mut L, address: &str) -> bool {
-    matches!(
-        listen_on(alloc, links, address),
-        Ok(ListenAnswer::Ready { .. })
-    )
+    matches!(listen_on(alloc, links, address), ListenAnswer::Ready { .. })
 }
 
 /// Whether the links fail to listen on the address.
 fn fails_to_listen<L: Links>(alloc: Global, links: &mut L, address: &str) -> bool {
-    matches!(listen_on(alloc, links, address), Ok(ListenAnswer::Failed))
+    listen_on(alloc, links, address) == ListenAnswer::Failed
 }
 
 /// Listens on the first port from 25000 on that is free, and gives its address.
-pub(crate) fn listen<L: Links>(alloc: Global, links: &mut L) -> Result<String, Fail> {
+pub(crate) fn listen<L: Links>(alloc: Global, links: &mut L) -> Option<String> {
     for port in 25_000u16..25_200 {
-        let address = format!(in alloc; "127.0.0.1:{port}")?;
+        let address = address_of(alloc, port)?;
         if is_ready(alloc, links, address.as_str()) {
-            return Ok(address);
+            return Some(address);
         }
     }
-    Err(Fail::from("no port"))
+    None
+}
+
+fn address_of(alloc: Global, port: u16) -> Option<String> {
+    format!(in alloc; "127.0.0.1:{port}").ok()
 }
 
 /// Two clients that are connected to the address.
@@ -68,9 +67,9 @@ fn connect<R: Net + Clock>(
     rt: &R,
     alloc: Global,
     links: &mut MioLinks<'_, R>,
-) -> Result<(R::Stream, R::Stream), Fail> {
+) -> Option<(R::Stream, R::Stream)> {
     let address = listen(alloc, links)?;
-    Ok(two_clients(rt, address.as_str())?)
+    two_clients(rt, address.as_str()).ok()
 }
 
 /// The next turn that is not idle, of the next fifty.
@@ -118,23 +117,18 @@ fn is_heard<L: Links>(
     client: &mut TcpStream,
     link: u64,
     text: &str,
-) -> io::Result<bool> {
-    client.write_all(text.as_bytes())?;
+) -> bool {
     let count = text.len();
-    Ok(next_turn(alloc, links, wants, buf) == What::Read { link, count })
+    client.write_all(text.as_bytes()).is_ok()
+        && next_turn(alloc, links, wants, buf) == What::Read { link, count }
 }
 
 /// Whether five bytes that are sent on link 1 come to its client.
-fn is_answered<L: Links>(
-    alloc: Global,
-    links: &mut L,
-    client: &mut TcpStream,
-    text: &str,
-) -> io::Result<bool> {
-    let sent = is_sent(alloc, links, 1, text, SendAnswer::Took { count: 5 });
+fn is_answered<L: Links>(alloc: Global, links: &mut L, client: &mut TcpStream, text: &str) -> bool {
     let mut reply = [0u8; 5];
-    client.read_exact(&mut reply)?;
-    Ok(sent && reply.as_slice() == text.as_bytes())
+    is_sent(alloc, links, 1, text, SendAnswer::Took { count: 5 })
+        && client.read_exact(&mut reply).is_ok()
+        && reply.as_slice() == text.as_bytes()
 }
 
 /// Whether link 1 ends as its client sends nothing more. Then it is closed.
@@ -144,11 +138,11 @@ fn is_ended<R: Net + Clock>(
     wants: &Wants,
     buf: &mut [u8],
     client: &mut TcpStream,
-) -> io::Result<bool> {
-    client.shutdown(Shutdown::Write)?;
-    let ended = next_turn(alloc, links, wants, buf) == What::Ended { link: 1 };
+) -> bool {
+    let ended = client.shutdown(Shutdown::Write).is_ok()
+        && next_turn(alloc, links, wants, buf) == What::Ended { link: 1 };
     links.close(1);
-    Ok(ended)
+    ended
 }
 
 /// Whether five bytes come from the client of link 1, five others go to it, and its link ends.
@@ -158,11 +152,10 @@ fn is_second_served<R: Net + Clock>(
     wants: &Wants,
     buf: &mut [u8],
     client: &mut TcpStream,
-) -> io::Result<bool> {
-    let heard = is_heard(alloc, links, wants, buf, client, 1, "hello")?;
-    let answered = is_answered(alloc, links, client, "world")?;
-    let ended = is_ended(alloc, links, wants, buf, client)?;
-    Ok(heard && answered && ended)
+) -> bool {
+    is_heard(alloc, links, wants, buf, client, 1, "hello")
+        && is_answered(alloc, links, client, "world")
+        && is_ended(alloc, links, wants, buf, client)
 }
 
 /// Whether the second client is served, and then the first one.
@@ -173,11 +166,10 @@ fn are_served<R: Net + Clock>(
     buf: &mut [u8],
     first: &mut TcpStream,
     second: &mut TcpStream,
-) -> io::Result<bool> {
-    let opened = are_opened(alloc, links, wants, buf);
-    let second_served = is_second_served(alloc, links, wants, buf, second)?;
-    let first_heard = is_heard(alloc, links, wants, buf, first, 0, "x")?;
-    Ok(opened && second_served && first_heard)
+) -> bool {
+    are_opened(alloc, links, wants, buf)
+        && is_second_served(alloc, links, wants, buf, second)
+        && is_heard(alloc, links, wants, buf, first, 0, "x")
 }
 
 /// Whether two clients are served.
@@ -189,20 +181,27 @@ fn serves<R: Net + Clock>(
 ) -> Result<bool, Memory> {
     let wants = both(alloc)?;
     let mut buf = vec![in alloc; 0; 65_536]?;
-    let served = are_served(alloc, links, &wants, buf.as_mut_slice(), first, second);
-    Ok(matches!(served, Ok(true)))
+    Ok(are_served(alloc, links, &wants, buf.as_mut_slice(), first, second))
+}
+
+/// Whether two clients that are connected to the links are served.
+fn are_clients_served<R: Net<Stream = TcpStream> + Clock>(
+    rt: &R,
+    alloc: Global,
+    links: &mut MioLinks<'_, R>,
+) -> bool {
+    match connect(rt, alloc, links) {
+        Some((mut first, mut second)) => {
+            matches!(serves(alloc, links, &mut first, &mut second), Ok(true))
+        }
+        None => false,
+    }
 }
 
 #[test]
 fn links_over_sockets_are_served(rt: HostRuntime) -> Result<(), Fail> {
     let mut links = MioLinks::fresh(&rt, rt.alloc())?;
-    let (mut first, mut second) = connect(&rt, rt.alloc(), &mut links)?;
-    assert!(rt;
-        matches!(
-            serves(rt.alloc(), &mut links, &mut first, &mut second),
-            Ok(true)
-        )
-    );
+    assert!(rt; are_clients_served(&rt, rt.alloc(), &mut links));
     Ok(())
 }
 
@@ -222,15 +221,15 @@ fn fill<L: Links>(alloc: Global, links: &mut L, block: &[u8]) -> usize {
 }
 
 /// Whether this many bytes come.
-fn is_drained(stream: &mut TcpStream, buf: &mut [u8], wanted: usize) -> io::Result<bool> {
+fn is_drained(stream: &mut TcpStream, buf: &mut [u8], wanted: usize) -> bool {
     let mut drained = 0usize;
     for _ in 0..1_000_000 {
         if drained >= wanted {
-            return Ok(drained == wanted);
+            return drained == wanted;
         }
-        drained = drained.saturating_add(stream.read(buf)?);
+        drained = drained.saturating_add(stream.read(buf).unwrap_or(0));
     }
-    Ok(false)
+    false
 }
 
 /// Whether the other client is heard while one of link 0 reads nothing, and there is room once it reads.
@@ -241,13 +240,12 @@ fn is_heard_beside_a_full_link<L: Links>(
     buf: &mut [u8],
     full: &mut TcpStream,
     other: &mut TcpStream,
-) -> io::Result<bool> {
+) -> bool {
     let filled = fill(alloc, links, buf);
-    let later = is_sent(alloc, links, 0, "more", SendAnswer::Later);
-    let heard = is_heard(alloc, links, wants, buf, other, 1, "x")?;
-    let drained = is_drained(full, buf, filled)?;
-    let room = next_turn(alloc, links, wants, buf) == What::Room { link: 0 };
-    Ok(later && heard && drained && room)
+    is_sent(alloc, links, 0, "more", SendAnswer::Later)
+        && is_heard(alloc, links, wants, buf, other, 1, "x")
+        && is_drained(full, buf, filled)
+        && next_turn(alloc, links, wants, buf) == What::Room { link: 0 }
 }
 
 /// The first client sends two bytes more than a read takes, and the other one byte.
@@ -265,12 +263,12 @@ fn is_heard_beside_a_busy_link<L: Links>(
     buf: &mut [u8],
     busy: &mut TcpStream,
     other: &mut TcpStream,
-) -> io::Result<bool> {
-    send_more_and_less(busy, other, buf)?;
+) -> bool {
+    let sent = send_more_and_less(busy, other, buf).is_ok();
     let one = What::Read { link: 1, count: 1 };
     let first = next_turn(alloc, links, wants, buf);
     let second = next_turn(alloc, links, wants, buf);
-    Ok(first == one || second == one)
+    sent && (first == one || second == one)
 }
 
 /// Whether link 1 breaks in two turns as its client is gone with an unread reply.
@@ -296,11 +294,10 @@ fn is_heard_beside_another<L: Links>(
     buf: &mut [u8],
     busy: &mut TcpStream,
     other: &mut TcpStream,
-) -> io::Result<bool> {
-    let opened = are_opened(alloc, links, wants, buf);
-    let beside_full = is_heard_beside_a_full_link(alloc, links, wants, buf, busy, other)?;
-    let beside_busy = is_heard_beside_a_busy_link(alloc, links, wants, buf, busy, other)?;
-    Ok(opened && beside_full && beside_busy)
+) -> bool {
+    are_opened(alloc, links, wants, buf)
+        && is_heard_beside_a_full_link(alloc, links, wants, buf, busy, other)
+        && is_heard_beside_a_busy_link(alloc, links, wants, buf, busy, other)
 }
 
 /// Whether the other client is heard until it is gone.
@@ -311,10 +308,10 @@ fn is_heard_to_its_end<L: Links>(
     buf: &mut [u8],
     busy: &mut TcpStream,
     mut other: TcpStream,
-) -> io::Result<bool> {
-    let heard = is_heard_beside_another(alloc, links, wants, buf, busy, &mut other)?;
+) -> bool {
+    let heard = is_heard_beside_another(alloc, links, wants, buf, busy, &mut other);
     let broken = is_broken(alloc, links, wants, buf, other);
-    Ok(heard && broken)
+    heard && broken
 }
 
 /// Whether no client keeps the other waiting.
@@ -326,31 +323,50 @@ fn shares<L: Links>(
 ) -> Result<bool, Memory> {
     let wants = both(alloc)?;
     let mut buf = vec![in alloc; 0; 65_536]?;
-    let heard = is_heard_to_its_end(alloc, links, &wants, buf.as_mut_slice(), busy, other);
-    Ok(matches!(heard, Ok(true)))
+    Ok(is_heard_to_its_end(alloc, links, &wants, buf.as_mut_slice(), busy, other))
+}
+
+/// Whether two clients that are connected to the links share them.
+fn do_clients_share<R: Net<Stream = TcpStream> + Clock>(
+    rt: &R,
+    alloc: Global,
+    links: &mut MioLinks<'_, R>,
+) -> bool {
+    match connect(rt, alloc, links) {
+        Some((mut busy, other)) => matches!(shares(alloc, links, &mut busy, other), Ok(true)),
+        None => false,
+    }
 }
 
 #[test]
 fn no_link_keeps_another_waiting(rt: HostRuntime) -> Result<(), Fail> {
     let mut links = MioLinks::fresh(&rt, rt.alloc())?;
-    let (mut busy, other) = connect(&rt, rt.alloc(), &mut links)?;
-    assert!(rt; matches!(shares(rt.alloc(), &mut links, &mut busy, other), Ok(true)));
+    assert!(rt; do_clients_share(&rt, rt.alloc(), &mut links));
     Ok(())
 }
 
 /// Whether others fail to listen on the address of the links, and on one without a port.
-fn are_refused<L: Links>(alloc: Global, links: &mut L, others: &mut L) -> Result<bool, Fail> {
-    let address = listen(alloc, links)?;
-    Ok(
-        fails_to_listen(alloc, others, address.as_str())
-            && fails_to_listen(alloc, others, "127.0.0.1"),
-    )
+fn are_refused<L: Links, M: Links>(alloc: Global, links: &mut L, others: &mut M) -> bool {
+    match listen(alloc, links) {
+        Some(address) => {
+            fails_to_listen(alloc, others, address.as_str())
+                && fails_to_listen(alloc, others, "127.0.0.1")
+        }
+        None => false,
+    }
+}
+
+/// Whether others that fail to listen on the address of the links, and on one without a port, count two faults.
+fn are_two_faults<R: Net + Clock>(rt: &R, alloc: Global, links: &mut MioLinks<'_, R>) -> bool {
+    match MioLinks::fresh(rt, alloc) {
+        Ok(mut others) => are_refused(alloc, links, &mut others) && others.faults == 2,
+        Err(Memory) => false,
+    }
 }
 
 #[test]
 fn a_port_in_use_is_a_fault(rt: HostRuntime) -> Result<(), Fail> {
     let mut links = MioLinks::fresh(&rt, rt.alloc())?;
-    let mut others = MioLinks::fresh(&rt, rt.alloc())?;
-    assert!(rt; are_refused(rt.alloc(), &mut links, &mut others)? && others.faults == 2);
+    assert!(rt; are_two_faults(&rt, rt.alloc(), &mut links));
     Ok(())
 }

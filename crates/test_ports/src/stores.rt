@@ -83,30 +83,34 @@ fn were_read(reads: &[StoreRead], wanted: &[(&str, bool)]) -> bool {
     reads.next().is_none()
 }
 
+const FILES: &[(&str, &str)] = &[("a", "first"), ("b", ""), ("a", "second")];
+
+const READS: &[Row<'static>] = &[
+    ("a", 5, Wanted::Bytes(b"first"), 5, 0),
+    ("a", 4, Wanted::TooLong, 10, 0),
+    ("a", 5, Wanted::Failed, 10, 1),
+    ("c", 5, Wanted::Failed, 10, 2),
+    ("b", 0, Wanted::Bytes(b""), 10, 2),
+];
+
+const NAMES_READ: &[(&str, bool)] = &[
+    ("a", false),
+    ("a", false),
+    ("a", true),
+    ("c", true),
+    ("b", false),
+];
+
 /// Whether the store answers by name, limit and number.
 fn is_answered(alloc: Global, store: &mut MemStore) -> bool {
-    let rows = [
-        ("a", 5, Wanted::Bytes(b"first"), 5, 0),
-        ("a", 4, Wanted::TooLong, 10, 0),
-        ("a", 5, Wanted::Failed, 10, 1),
-        ("c", 5, Wanted::Failed, 10, 2),
-        ("b", 0, Wanted::Bytes(b""), 10, 2),
-    ];
-    let reads = [
-        ("a", false),
-        ("a", false),
-        ("a", true),
-        ("c", true),
-        ("b", false),
-    ];
-    matches!(are_held(alloc, store, &rows), Ok(true))
+    matches!(are_held(alloc, store, READS), Ok(true))
         && store.calls == 5
-        && were_read(store.reads.as_slice(), &reads)
+        && were_read(store.reads.as_slice(), NAMES_READ)
 }
 
 #[test]
 fn a_store_in_memory_answers_by_name_limit_and_number(rt: HostRuntime) -> Result<(), Fail> {
-    let mut store = store(rt.alloc(), &[("a", "first"), ("b", ""), ("a", "second")])?;
+    let mut store = store(rt.alloc(), FILES)?;
     assert!(rt; is_answered(rt.alloc(), &mut store));
     Ok(())
 }
