@@ -2,7 +2,6 @@ use disk_port::{Disk, DiskError, FileDisk, MemDisk};
 use ev_types::{Blob, Memory, Text};
 use std::alloc::Global;
 use std::rt::Files;
-use std::test::Fail;
 use std::{fs, process};
 
 /// Writes the bytes from `place` on, if the file has that many.
@@ -67,60 +66,69 @@ pub(crate) fn disk_of(alloc: Global, bytes: &[u8], stop: Option<u64>) -> Result<
 
 /// Whether one of the disk's nine calls fails, and none follows it.
 fn fails_once(alloc: Global, disk: &mut MemDisk) -> bool {
-    is_kept(alloc, disk) == Err(DiskError::Failed) && disk.faults == 1
-}
-
-/// Whether the disk fails where it stops at the call of this number.
-fn stops_at(alloc: Global, stop: u64) -> Result<bool, Memory> {
-    let mut disk = disk_of(alloc, b"", Some(stop))?;
-    Ok(fails_once(alloc, &mut disk))
-}
-
-/// Whether the disk fails at each of its nine calls where it stops there.
-fn stops_at_each(alloc: Global) -> Result<bool, Memory> {
-    for stop in 0..9u64 {
-        if !stops_at(alloc, stop)? {
-            return Ok(false);
-        }
-    }
-    Ok(true)
+    matches!(is_kept(alloc, disk), Err(DiskError::Failed)) && disk.faults == 1
 }
 
 /// Whether the file is kept by nine calls, of which two write and one syncs.
 fn keeps(alloc: Global, disk: &mut MemDisk) -> bool {
-    is_kept(alloc, disk) == Ok(true) && disk.calls == 9 && disk.log.len() == 3
+    matches!(is_kept(alloc, disk), Ok(true)) && disk.calls == 9 && disk.log.len() == 3
 }
 
-/// Whether the file is kept where the disk stops only later.
-fn stops_later(alloc: Global) -> Result<bool, Memory> {
-    let mut disk = disk_of(alloc, b"", Some(9))?;
-    Ok(keeps(alloc, &mut disk))
+/// Whether the disk fails at one of its nine calls where it stops there, and not where it stops later.
+fn stops(alloc: Global, disk: &mut MemDisk, stop: u64) -> bool {
+    if stop < 9 {
+        fails_once(alloc, disk)
+    } else {
+        keeps(alloc, disk)
+    }
+}
+
+/// Whether that is so for an empty disk that stops at the call of this number.
+fn stops_at(alloc: Global, stop: u64) -> bool {
+    match disk_of(alloc, b"", Some(stop)) {
+        Ok(mut disk) => stops(alloc, &mut disk, stop),
+        Err(Memory) => false,
+    }
+}
+
+/// Whether that is so for each of its nine calls, and for the one after them.
+fn stops_at_each(alloc: Global) -> bool {
+    for stop in 0..10u64 {
+        if !stops_at(alloc, stop) {
+            return false;
+        }
+    }
+    true
 }
 
 /// Whether the disk refuses to open a file at first, and then opens it.
-fn opens_again(alloc: Global, disk: &mut MemDisk) -> Result<bool, Memory> {
-    let name = Text::from_str(alloc, "j")?;
-    let refused = disk.open(alloc, &name) == Err(DiskError::Failed);
-    let opened = disk.open(alloc, &name) == Ok(());
-    Ok(refused && opened && disk.opened.len() == 2)
+fn opens_again(alloc: Global, disk: &mut MemDisk, name: &Text) -> bool {
+    let refused = matches!(disk.open(alloc, name), Err(DiskError::Failed));
+    let opened = disk.open(alloc, name).is_ok();
+    refused && opened && disk.opened.len() == 2
+}
+
+/// Whether that is so for the file "j".
+fn opens_file_again(alloc: Global, disk: &mut MemDisk) -> bool {
+    match Text::from_str(alloc, "j") {
+        Ok(name) => opens_again(alloc, disk, &name),
+        Err(Memory) => false,
+    }
 }
 
 /// Whether the first call fails that is chosen to.
 fn fails_at_first(alloc: Global) -> Result<bool, Memory> {
     let failing = vec![in alloc; 0]?;
     let mut disk = MemDisk::fresh(alloc, Blob::fresh(alloc), failing, Some(9))?;
-    opens_again(alloc, &mut disk)
+    Ok(opens_file_again(alloc, &mut disk))
 }
 
 #[test]
-fn a_disk_in_memory_keeps_bytes_and_stops_at_a_call(rt: HostRuntime) -> Result<(), Fail> {
-    let stops = stops_at_each(rt.alloc())?;
+fn a_disk_in_memory_keeps_bytes_and_stops_at_a_call(rt: HostRuntime) {
+    let stops = stops_at_each(rt.alloc());
     assert!(rt; stops);
-    let kept = stops_later(rt.alloc())?;
-    assert!(rt; kept);
-    let failed = fails_at_first(rt.alloc())?;
+    let failed = matches!(fails_at_first(rt.alloc()), Ok(true));
     assert!(rt; failed);
-    Ok(())
 }
 
 /// Whether the path is opened, and its file is kept.
@@ -130,33 +138,53 @@ fn is_filed<D: Disk>(alloc: Global, disk: &mut D, path: &str) -> Result<bool, Di
     is_kept(alloc, disk)
 }
 
-/// Whether the disk's calls fail before a file is open, and the file of the path is then kept.
-fn is_file_kept<R: Files>(rt: &R, alloc: Global, path: &str) -> bool {
+/// Whether a call of a disk fails before a file is open, and this comes of the file of the path, after so many faults.
+fn is_file<R: Files>(
+    rt: &R,
+    alloc: Global,
+    path: &str,
+    wanted: Result<bool, DiskError>,
+    faults: u64,
+) -> bool {
     let mut disk = FileDisk::fresh(rt);
-    let closed = disk.length(alloc) == Err(DiskError::Failed);
-    let filed = is_filed(alloc, &mut disk, path) == Ok(true);
-    closed && filed && disk.faults == 1
+    let closed = matches!(disk.length(alloc), Err(DiskError::Failed));
+    let filed = is_filed(alloc, &mut disk, path) == wanted;
+    closed && filed && disk.faults == faults
 }
 
-/// Whether no file is made of the path.
-fn is_file_refused<R: Files>(rt: &R, alloc: Global, path: &str) -> bool {
-    let mut disk = FileDisk::fresh(rt);
-    is_filed(alloc, &mut disk, path) == Err(DiskError::Failed) && disk.faults == 1
+/// Whether the file of the path has these bytes.
+fn has_bytes(rt: &HostRuntime, path: &str, wanted: &[u8]) -> bool {
+    match fs::read(rt, path) {
+        Ok(bytes) => bytes.as_slice() == wanted,
+        Err(_) => false,
+    }
 }
 
 /// Whether a file is made of the path and kept. It is then removed.
-fn is_made(rt: &HostRuntime, path: &str) -> Result<bool, Fail> {
-    let kept = is_file_kept(rt, rt.alloc(), path);
-    let bytes = fs::read(rt, path)?;
-    fs::remove_file(rt, path)?;
-    Ok(kept && bytes.as_slice() == b"abxyz".as_slice())
+fn is_made(rt: &HostRuntime, path: &str) -> bool {
+    let kept = is_file(rt, rt.alloc(), path, Ok(true), 1);
+    let written = has_bytes(rt, path, b"abxyz");
+    let removed = fs::remove_file(rt, path).is_ok();
+    kept && written && removed
+}
+
+/// Whether that is so for a path that no other process has.
+fn is_own_made(rt: &HostRuntime) -> bool {
+    match format!(in rt.alloc(); "/tmp/disk_port_{}", process::id(rt.process())) {
+        Ok(path) => is_made(rt, path.as_str()),
+        Err(_) => false,
+    }
+}
+
+/// Whether no file is made of the path.
+fn is_refused(rt: &HostRuntime, path: &str) -> bool {
+    is_file(rt, rt.alloc(), path, Err(DiskError::Failed), 2)
 }
 
 #[test]
-fn a_file_is_made_and_kept(rt: HostRuntime) -> Result<(), Fail> {
-    let path = format!(in rt.alloc(); "/tmp/disk_port_{}", process::id(rt.process()))?;
-    let made = is_made(&rt, path.as_str())?;
+fn a_file_is_made_and_kept(rt: HostRuntime) {
+    let made = is_own_made(&rt);
     assert!(rt; made);
-    assert!(rt; is_file_refused(&rt, rt.alloc(), "/tmp/no_such/j"));
-    Ok(())
+    let refused = is_refused(&rt, "/tmp/no_such/j");
+    assert!(rt; refused);
 }

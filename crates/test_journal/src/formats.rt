@@ -1,12 +1,10 @@
 ghost use Rattle.journal_format.specs.Spelling.{IsRecord};
 
-use ev_types::Memory;
 use journal_format::{
     Found, NoJournal, SendEnd, Summary, TurnRecord, find_gate, push_head, push_read_turn,
     push_record, push_turn, read_record,
 };
 use std::alloc::Global;
-use std::test::Fail;
 
 /// The configuration of the journals here.
 pub(crate) const CONFIG: &[u8; 15] = b"(streams index)";
@@ -23,84 +21,83 @@ const READ: &[u8; 42] =
     b"\x00\x01\x00\x00\x00\x00\x00\x00\x00\x07\x00\x00\x00\x00\x00\x00\x00\x05\x01\x00\x00\x00\x00\x00\x00\x00\x0a\x03\x00\x00\x00\x00\x00\x00\x00\x07\x00\x00\x00\x02ab";
 
 /// Whether the record is written as these bytes.
-fn is_written(alloc: Global, entry: &TurnRecord, bytes: &[u8]) -> Result<bool, Memory>
+fn is_written(alloc: Global, entry: &TurnRecord, bytes: &[u8]) -> bool
     requires { IsRecord entry.now }
 {
     let mut whole = Vec::new(alloc);
-    push_record(alloc, &mut whole, entry)?;
-    Ok(whole.as_slice() == bytes)
+    let is_pushed = push_record(alloc, &mut whole, entry).is_ok();
+    is_pushed && whole.as_slice() == bytes
 }
 
 /// Whether the record is written as these bytes from its parts.
-fn is_written_in_parts(alloc: Global, entry: &TurnRecord, bytes: &[u8]) -> Result<bool, Memory>
+fn is_written_in_parts(alloc: Global, entry: &TurnRecord, bytes: &[u8]) -> bool
     requires { IsRecord entry.now }
 {
     let mut parts = Vec::new(alloc);
     let summaries = entry.summaries.as_slice();
-    push_turn(alloc, &mut parts, summaries, entry.secs, &entry.event)?;
-    Ok(parts.as_slice() == bytes)
+    let is_pushed = push_turn(alloc, &mut parts, summaries, entry.secs, &entry.event).is_ok();
+    is_pushed && parts.as_slice() == bytes
 }
 
 /// Whether the record is written as these bytes in each of two ways.
-fn is_written_twice(alloc: Global, entry: &TurnRecord, bytes: &[u8]) -> Result<bool, Memory>
+fn is_written_twice(alloc: Global, entry: &TurnRecord, bytes: &[u8]) -> bool
     requires { IsRecord entry.now }
 {
-    let whole = is_written(alloc, entry, bytes)?;
-    let parts = is_written_in_parts(alloc, entry, bytes)?;
-    Ok(whole && parts)
+    let whole = is_written(alloc, entry, bytes);
+    let parts = is_written_in_parts(alloc, entry, bytes);
+    whole && parts
 }
 
 /// Whether the bytes are read as one record, and that is written so.
-fn is_written_again(alloc: Global, bytes: &[u8]) -> Result<bool, Memory> {
+fn is_written_again(alloc: Global, bytes: &[u8]) -> bool {
     match read_record(alloc, bytes) {
         Ok((entry, rest)) => {
-            let written = is_written_twice(alloc, &entry, bytes)?;
-            Ok(rest.is_empty() && written)
+            let written = is_written_twice(alloc, &entry, bytes);
+            rest.is_empty() && written
         }
-        Err(_) => Ok(false),
+        Err(_) => false,
     }
 }
 
 /// Whether the record of a read is written from its bytes.
-fn is_read_written(alloc: Global) -> Result<bool, Memory> {
+fn is_read_written(alloc: Global) -> bool {
     let summaries = [Summary {
         link: 7,
         taken: 5,
         end: SendEnd::Later,
     }];
     let mut bytes = Vec::new(alloc);
-    push_read_turn(alloc, &mut bytes, &summaries, 10, 7, b"ab")?;
-    Ok(bytes.as_slice() == READ.as_slice())
+    let is_pushed = push_read_turn(alloc, &mut bytes, &summaries, 10, 7, b"ab").is_ok();
+    is_pushed && bytes.as_slice() == READ.as_slice()
 }
 
 /// Bytes, each with whether they are a record.
 const RECORDS: &[(&[u8], bool)] = &[(LISTEN, true), (READ, true), (b"\x00\x00", false)];
 
 /// Whether the bytes of each row are read as a record where it says so.
-fn are_written_again(alloc: Global) -> Result<bool, Memory> {
+fn are_written_again(alloc: Global) -> bool {
     for (bytes, is_record) in RECORDS {
-        if is_written_again(alloc, bytes)? != *is_record {
-            return Ok(false);
+        if is_written_again(alloc, bytes) != *is_record {
+            return false;
         }
     }
-    Ok(true)
+    true
 }
 
 #[test]
-fn records_are_read_and_written(rt: HostRuntime) -> Result<(), Fail> {
-    let again = are_written_again(rt.alloc())?;
+fn records_are_read_and_written(rt: HostRuntime) {
+    let again = are_written_again(rt.alloc());
     assert!(rt; again);
-    let written = is_read_written(rt.alloc())?;
+    let written = is_read_written(rt.alloc());
     assert!(rt; written);
-    Ok(())
 }
 
 /// Whether the head of the journal is written.
-fn is_head_written(alloc: Global) -> Result<bool, Memory> {
+fn is_head_written(alloc: Global) -> bool {
     let mut bytes = Vec::new(alloc);
-    push_head(alloc, &mut bytes, CONFIG)?;
+    let is_pushed = push_head(alloc, &mut bytes, CONFIG).is_ok();
     let journal = JOURNAL.as_slice();
-    Ok(bytes.as_slice() == &journal[1..20])
+    is_pushed && bytes.as_slice() == &journal[1..20]
 }
 
 /// How many bytes of the journal there are, and what is found in them.
@@ -125,11 +122,11 @@ fn is_found(alloc: Global, count: usize, wanted: &Result<Found, NoJournal>) -> b
 }
 
 #[test]
-fn a_journal_is_found_in_its_bytes(rt: HostRuntime) -> Result<(), Fail> {
-    let written = is_head_written(rt.alloc())?;
+fn a_journal_is_found_in_its_bytes(rt: HostRuntime) {
+    let written = is_head_written(rt.alloc());
     assert!(rt; written);
     for (count, wanted) in GATES {
-        assert!(rt; is_found(rt.alloc(), *count, wanted), "{count} bytes");
+        let is_found = is_found(rt.alloc(), *count, wanted);
+        assert!(rt; is_found, "{count} bytes");
     }
-    Ok(())
 }

@@ -7,7 +7,6 @@ use disk_port::{Disk, DiskError, MemDisk};
 use ev_types::Memory;
 use journal_format::read_record;
 use std::alloc::Global;
-use std::test::Fail;
 use turn_journal::{JournalFault, JournalFile, begin_on, load_on};
 
 /// Whether the bytes are a record that may come next in a journal.
@@ -40,7 +39,7 @@ fn add<D: Disk>(
 
 /// Whether a record is added to the journal, as its first one.
 fn is_added<D: Disk>(alloc: Global, file: &mut JournalFile<'_, D>) -> bool {
-    let added = add(alloc, file, LISTEN) == Ok(());
+    let added = add(alloc, file, LISTEN).is_ok();
     added && file.gate == 32 && file.has_record && !file.failed
 }
 
@@ -67,44 +66,71 @@ fn is_loaded<D: Disk>(alloc: Global, disk: &mut D) -> Result<bool, JournalFault>
 
 /// Whether a journal is begun on the empty disk, added to and loaded.
 fn keeps_journal(alloc: Global, disk: &mut MemDisk) -> bool {
-    let begun = is_begun(alloc, disk) == Ok(true);
+    let begun = matches!(is_begun(alloc, disk), Ok(true));
     let written = disk.file.as_slice() == JOURNAL.as_slice();
-    let loaded = is_loaded(alloc, disk) == Ok(true);
+    let loaded = matches!(is_loaded(alloc, disk), Ok(true));
     begun && written && loaded
 }
 
-#[test]
-fn a_journal_is_begun_added_to_and_loaded(rt: HostRuntime) -> Result<(), Fail> {
-    let mut disk = disk_of(rt.alloc(), b"", None)?;
-    assert!(rt; keeps_journal(rt.alloc(), &mut disk));
-    Ok(())
-}
-
 /// Whether no journal is begun over one.
-fn is_taken(alloc: Global) -> Result<bool, Memory> {
-    let mut disk = disk_of(alloc, JOURNAL, None)?;
-    Ok(begin_on(alloc, &mut disk, CONFIG) == Err(JournalFault::Refused { place: 0 }))
+fn is_taken(alloc: Global, disk: &mut MemDisk) -> bool {
+    matches!(
+        begin_on(alloc, disk, CONFIG),
+        Err(JournalFault::Refused { place: 0 })
+    )
 }
 
 /// Whether a journal that is cut is refused.
-fn is_cut_refused(alloc: Global) -> Result<bool, Memory> {
-    let mut disk = disk_of(alloc, &JOURNAL[..25], None)?;
-    Ok(is_loaded(alloc, &mut disk) == Err(JournalFault::Refused { place: 21 }))
+fn is_cut_refused(alloc: Global, disk: &mut MemDisk) -> bool {
+    matches!(
+        is_loaded(alloc, disk),
+        Err(JournalFault::Refused { place: 21 })
+    )
 }
 
-/// Whether no journal is loaded from an empty file.
-fn is_empty_refused(alloc: Global) -> Result<bool, Memory> {
-    let mut disk = disk_of(alloc, b"", None)?;
-    Ok(load_on(alloc, &mut disk).is_err())
+/// What a disk shows.
+#[derive(Clone, Copy)]
+enum Shown {
+    /// A journal is begun, added to and loaded.
+    Kept,
+    /// No journal is begun over the one that it has.
+    Taken,
+    /// Its journal, which is cut, is refused at a place.
+    CutRefused,
+    /// No journal is loaded, since its file is empty.
+    EmptyRefused,
+}
+
+/// Whether the disk shows this.
+fn shows(alloc: Global, disk: &mut MemDisk, shown: Shown) -> bool {
+    match shown {
+        Shown::Kept => keeps_journal(alloc, disk),
+        Shown::Taken => is_taken(alloc, disk),
+        Shown::CutRefused => is_cut_refused(alloc, disk),
+        Shown::EmptyRefused => load_on(alloc, disk).is_err(),
+    }
+}
+
+/// Whether a disk with these bytes shows this.
+fn is_shown(alloc: Global, bytes: &[u8], shown: Shown) -> bool {
+    match disk_of(alloc, bytes, None) {
+        Ok(mut disk) => shows(alloc, &mut disk, shown),
+        Err(Memory) => false,
+    }
 }
 
 #[test]
-fn files_are_refused_at_a_place(rt: HostRuntime) -> Result<(), Fail> {
-    let taken = is_taken(rt.alloc())?;
+fn a_journal_is_begun_added_to_and_loaded(rt: HostRuntime) {
+    let kept = is_shown(rt.alloc(), b"", Shown::Kept);
+    assert!(rt; kept);
+}
+
+#[test]
+fn files_are_refused_at_a_place(rt: HostRuntime) {
+    let taken = is_shown(rt.alloc(), JOURNAL, Shown::Taken);
     assert!(rt; taken);
-    let cut = is_cut_refused(rt.alloc())?;
+    let cut = is_shown(rt.alloc(), &JOURNAL[..25], Shown::CutRefused);
     assert!(rt; cut);
-    let empty = is_empty_refused(rt.alloc())?;
+    let empty = is_shown(rt.alloc(), b"", Shown::EmptyRefused);
     assert!(rt; empty);
-    Ok(())
 }

@@ -1,4 +1,4 @@
-ghost use Rattle.std.specs.Prelude.{◌≡◌, vec_len, IfOk};
+ghost use Rattle.std.specs.Prelude.{◌≡◌, length, vec_len, IfOk};
 
 use crate::disks::disk_of;
 use crate::formats::CONFIG;
@@ -9,7 +9,6 @@ use ports::{
 };
 use recorded_links::{RecordRoom, RecordedLinks};
 use std::alloc::Global;
-use std::test::Fail;
 use turn_journal::{JournalFault, JournalFile};
 
 /// The journal of a `listen`, of link 0 that opens, and, after a send of three bytes on it, of a read of two, at second
@@ -24,26 +23,37 @@ pub(crate) fn buffer(alloc: Global) -> Result<Vec<u8>, Memory>
     Ok(vec![in alloc; 0; PIECE_LIMIT]?)
 }
 
-/// What the links answer to `listen`.
-pub(crate) fn listen<L: Links>(alloc: Global, links: &mut L) -> Result<ListenAnswer, Memory> {
-    let address = Text::from_str(alloc, "h:1")?;
-    Ok(links.listen(alloc, &address))
+/// Whether this is what the links answer to `listen`.
+pub(crate) fn is_listened<L: Links>(alloc: Global, links: &mut L, answer: ListenAnswer) -> bool {
+    match Text::from_str(alloc, "h:1") {
+        Ok(address) => links.listen(alloc, &address) == answer,
+        Err(Memory) => false,
+    }
+}
+
+/// Whether the next turn, whose bytes come to `buf`, is this one, at second 0.
+fn is_next_in<L: Links>(alloc: Global, links: &mut L, buf: &mut [u8], what: What) -> bool
+    requires { length buf.old ≡ PIECE_LIMIT }
+{
+    let wants = Wants::fresh(alloc);
+    links.next(alloc, &wants, buf) == Turn { secs: 0, what }
 }
 
 /// Whether the next turn is this one, at second 0.
-pub(crate) fn is_next<L: Links>(alloc: Global, links: &mut L, what: What) -> Result<bool, Memory> {
-    let wants = Wants::fresh(alloc);
-    let mut buf = buffer(alloc)?;
-    Ok(links.next(alloc, &wants, buf.as_mut_slice()) == Turn { secs: 0, what })
+pub(crate) fn is_next<L: Links>(alloc: Global, links: &mut L, what: What) -> bool {
+    match buffer(alloc) {
+        Ok(mut buf) => is_next_in(alloc, links, buf.as_mut_slice(), what),
+        Err(Memory) => false,
+    }
 }
 
 /// Whether a `listen` and two turns are given, and a send between them is taken.
-pub(crate) fn is_played<L: Links>(alloc: Global, links: &mut L) -> Result<bool, Memory> {
-    let ready = listen(alloc, links)? == ListenAnswer::Ready { secs: 0 };
-    let opened = is_next(alloc, links, What::Opened { link: 0 })?;
+pub(crate) fn is_played<L: Links>(alloc: Global, links: &mut L) -> bool {
+    let ready = is_listened(alloc, links, ListenAnswer::Ready { secs: 0 });
+    let opened = is_next(alloc, links, What::Opened { link: 0 });
     let sent = links.send(alloc, 0, b"abc") == SendAnswer::Took { count: 3 };
-    let read = is_next(alloc, links, What::Read { link: 0, count: 2 })?;
-    Ok(ready && opened && sent && read)
+    let read = is_next(alloc, links, What::Read { link: 0, count: 2 });
+    ready && opened && sent && read
 }
 
 /// What is asked of links that record.
@@ -56,30 +66,24 @@ pub(crate) enum Asked {
 }
 
 /// Whether these turns are recorded.
-fn plays<L: Links, D: Disk>(
-    alloc: Global,
-    links: &mut RecordedLinks<'_, L, D>,
-) -> Result<bool, Memory> {
-    let played = is_played(alloc, links)?;
-    Ok(played && !links.spent && !links.disk_failed)
+fn plays<L: Links, D: Disk>(alloc: Global, links: &mut RecordedLinks<'_, L, D>) -> bool {
+    let played = is_played(alloc, links);
+    played && !links.spent && !links.disk_failed
 }
 
 /// Whether the `listen` fails for the disk, and the call after it is out of memory.
-fn stops<L: Links, D: Disk>(
-    alloc: Global,
-    links: &mut RecordedLinks<'_, L, D>,
-) -> Result<bool, Memory> {
-    let answer = listen(alloc, links)?;
-    let failed = answer == ListenAnswer::Failed && links.disk_failed && links.spent;
-    let ended = is_next(alloc, links, What::Memory)?;
-    Ok(failed && ended)
+fn stops<L: Links, D: Disk>(alloc: Global, links: &mut RecordedLinks<'_, L, D>) -> bool {
+    let failed = is_listened(alloc, links, ListenAnswer::Failed);
+    let spent = links.disk_failed && links.spent;
+    let ended = is_next(alloc, links, What::Memory);
+    failed && spent && ended
 }
 
 fn answers<L: Links, D: Disk>(
     alloc: Global,
     links: &mut RecordedLinks<'_, L, D>,
     asked: Asked,
-) -> Result<bool, Memory> {
+) -> bool {
     match asked {
         Asked::Plays => plays(alloc, links),
         Asked::Stops => stops(alloc, links),
@@ -96,7 +100,7 @@ fn record_over<L: Links, D: Disk>(
 ) -> Result<bool, JournalFault> {
     let journal = JournalFile::begin(alloc, disk, &mut room.written, CONFIG)?;
     let mut links = RecordedLinks::over(inner, journal, None, &mut room.turns);
-    Ok(answers(alloc, &mut links, asked)?)
+    Ok(answers(alloc, &mut links, asked))
 }
 
 /// Links on which link 0 opens and reads two bytes.
@@ -113,24 +117,31 @@ fn record(alloc: Global, disk: &mut MemDisk, asked: Asked) -> Result<bool, Journ
 
 /// Whether the turns are recorded on the empty disk.
 fn is_recorded(alloc: Global, disk: &mut MemDisk) -> bool {
-    record(alloc, disk, Asked::Plays) == Ok(true) && disk.file.as_slice() == RECORDED.as_slice()
-}
-
-#[test]
-fn turns_are_recorded_with_the_sends_before_them(rt: HostRuntime) -> Result<(), Fail> {
-    let mut disk = disk_of(rt.alloc(), b"", None)?;
-    assert!(rt; is_recorded(rt.alloc(), &mut disk));
-    Ok(())
+    let played = matches!(record(alloc, disk, Asked::Plays), Ok(true));
+    played && disk.file.as_slice() == RECORDED.as_slice()
 }
 
 /// Whether the run ends on a disk that stops after its journal was begun.
 fn is_ended(alloc: Global, disk: &mut MemDisk) -> bool {
-    record(alloc, disk, Asked::Stops) == Ok(true) && disk.faults == 1
+    let stopped = matches!(record(alloc, disk, Asked::Stops), Ok(true));
+    stopped && disk.faults == 1
+}
+
+/// Whether the run ends on an empty disk that stops at the call of the number `stop`, or, if none does, is recorded.
+fn is_recorded_until(alloc: Global, stop: Option<u64>) -> bool {
+    match disk_of(alloc, b"", stop) {
+        Ok(mut disk) => match stop {
+            Some(_) => is_ended(alloc, &mut disk),
+            None => is_recorded(alloc, &mut disk),
+        },
+        Err(Memory) => false,
+    }
 }
 
 #[test]
-fn a_disk_that_stops_ends_a_recorded_run(rt: HostRuntime) -> Result<(), Fail> {
-    let mut disk = disk_of(rt.alloc(), b"", Some(10))?;
-    assert!(rt; is_ended(rt.alloc(), &mut disk));
-    Ok(())
+fn turns_are_recorded_with_the_sends_before_them_until_the_disk_stops(rt: HostRuntime) {
+    let recorded = is_recorded_until(rt.alloc(), None);
+    assert!(rt; recorded);
+    let ended = is_recorded_until(rt.alloc(), Some(10));
+    assert!(rt; ended);
 }

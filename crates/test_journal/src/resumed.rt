@@ -1,32 +1,26 @@
 use crate::disks::disk_of;
 use crate::formats::CONFIG;
-use crate::recorded::{Asked, RECORDED, is_next, is_played, listen, two_turns};
+use crate::recorded::{Asked, RECORDED, is_listened, is_next, is_played, two_turns};
 use crate::replayed::count_records;
 use disk_port::{Disk, MemDisk};
 use ev_types::Memory;
 use journal_links::{JournalLinks, JournalRoom};
 use ports::{Links, ListenAnswer, SendAnswer, What};
 use std::alloc::Global;
-use std::test::Fail;
 use turn_journal::JournalFault;
 
 /// Whether turns are given and recorded, and none is one that the journal had.
-fn plays<L: Links, D: Disk>(
-    alloc: Global,
-    links: &mut JournalLinks<'_, L, D>,
-) -> Result<bool, Memory> {
-    let played = is_played(alloc, links)?;
-    Ok(played && !links.replayed() && !links.disk_failed())
+fn plays<L: Links, D: Disk>(alloc: Global, links: &mut JournalLinks<'_, L, D>) -> bool {
+    let played = is_played(alloc, links);
+    played && !links.replayed() && !links.disk_failed()
 }
 
 /// Whether the `listen` fails for the disk, and the call after it is out of memory.
-fn stops<L: Links, D: Disk>(
-    alloc: Global,
-    links: &mut JournalLinks<'_, L, D>,
-) -> Result<bool, Memory> {
-    let failed = listen(alloc, links)? == ListenAnswer::Failed && links.disk_failed();
-    let ended = is_next(alloc, links, What::Memory)?;
-    Ok(failed && ended && !links.disk_failed())
+fn stops<L: Links, D: Disk>(alloc: Global, links: &mut JournalLinks<'_, L, D>) -> bool {
+    let failed = is_listened(alloc, links, ListenAnswer::Failed);
+    let disk_failed = links.disk_failed();
+    let ended = is_next(alloc, links, What::Memory);
+    failed && disk_failed && ended && !links.disk_failed()
 }
 
 /// Whether the links are of the configuration, and answer what is asked.
@@ -34,12 +28,12 @@ fn answers<L: Links, D: Disk>(
     alloc: Global,
     links: &mut JournalLinks<'_, L, D>,
     asked: Asked,
-) -> Result<bool, Memory> {
+) -> bool {
     let answered = match asked {
-        Asked::Plays => plays(alloc, links)?,
-        Asked::Stops => stops(alloc, links)?,
+        Asked::Plays => plays(alloc, links),
+        Asked::Stops => stops(alloc, links),
     };
-    Ok(answered && links.config().as_slice() == CONFIG.as_slice())
+    answered && links.config().as_slice() == CONFIG.as_slice()
 }
 
 /// Whether links whose journal begins answer what is asked.
@@ -51,7 +45,7 @@ fn record_over<L: Links, D: Disk>(
     asked: Asked,
 ) -> Result<bool, JournalFault> {
     let mut links = JournalLinks::record(alloc, inner, disk, room, CONFIG)?;
-    Ok(answers(alloc, &mut links, asked)?)
+    Ok(answers(alloc, &mut links, asked))
 }
 
 /// What is asked of links that give the turns of a journal again.
@@ -64,41 +58,35 @@ enum Again {
 }
 
 /// Whether these turns are given, and then those of other links.
-fn gives_others<L: Links>(alloc: Global, links: &mut L) -> Result<bool, Memory> {
-    let played = is_played(alloc, links)?;
-    let broken = is_next(alloc, links, What::Broken { link: 0 })?;
-    let opened = is_next(alloc, links, What::Opened { link: 1 })?;
+fn gives_others<L: Links>(alloc: Global, links: &mut L) -> bool {
+    let played = is_played(alloc, links);
+    let broken = is_next(alloc, links, What::Broken { link: 0 });
+    let opened = is_next(alloc, links, What::Opened { link: 1 });
     let sent = links.send(alloc, 1, b"d") == SendAnswer::Took { count: 1 };
-    let next = is_next(alloc, links, What::Read { link: 1, count: 2 })?;
-    Ok(played && broken && opened && sent && next)
+    let next = is_next(alloc, links, What::Read { link: 1, count: 2 });
+    played && broken && opened && sent && next
 }
 
 /// Whether the turns of the journal are given, and then those of other links.
-fn goes_on<L: Links, D: Disk>(
-    alloc: Global,
-    links: &mut JournalLinks<'_, L, D>,
-) -> Result<bool, Memory> {
+fn goes_on<L: Links, D: Disk>(alloc: Global, links: &mut JournalLinks<'_, L, D>) -> bool {
     let config = links.config().as_slice() == CONFIG.as_slice();
-    let others = gives_others(alloc, links)?;
-    Ok(config && others && !links.replayed() && !links.disk_failed())
+    let others = gives_others(alloc, links);
+    config && others && !links.replayed() && !links.disk_failed()
 }
 
 /// Whether the first turn of a journal that has a later one is given as such.
-fn is_replayed<L: Links, D: Disk>(
-    alloc: Global,
-    links: &mut JournalLinks<'_, L, D>,
-) -> Result<bool, Memory> {
-    let listened = listen(alloc, links)? == ListenAnswer::Ready { secs: 0 };
+fn is_replayed<L: Links, D: Disk>(alloc: Global, links: &mut JournalLinks<'_, L, D>) -> bool {
+    let listened = is_listened(alloc, links, ListenAnswer::Ready { secs: 0 });
     let before = links.replayed();
-    let opened = is_next(alloc, links, What::Opened { link: 0 })?;
-    Ok(listened && !before && opened && links.replayed())
+    let opened = is_next(alloc, links, What::Opened { link: 0 });
+    listened && !before && opened && links.replayed()
 }
 
 fn answers_again<L: Links, D: Disk>(
     alloc: Global,
     links: &mut JournalLinks<'_, L, D>,
     asked: Again,
-) -> Result<bool, Memory> {
+) -> bool {
     match asked {
         Again::GoesOn => goes_on(alloc, links),
         Again::IsReplayed => is_replayed(alloc, links),
@@ -114,7 +102,7 @@ fn resume_over<L: Links, D: Disk>(
     asked: Again,
 ) -> Result<bool, JournalFault> {
     let mut links = JournalLinks::resume(alloc, inner, disk, room)?;
-    Ok(answers_again(alloc, &mut links, asked)?)
+    Ok(answers_again(alloc, &mut links, asked))
 }
 
 /// Whether links over two turns, whose journal begins on the disk, answer what is asked.
@@ -133,51 +121,68 @@ fn resume(alloc: Global, disk: &mut MemDisk, asked: Again) -> Result<bool, Journ
 
 /// Whether a run is recorded on the empty disk, and goes on with other links.
 fn is_kept(alloc: Global, disk: &mut MemDisk) -> bool {
-    let begun = record(alloc, disk, Asked::Plays) == Ok(true);
+    let begun = matches!(record(alloc, disk, Asked::Plays), Ok(true));
     let recorded = disk.file.as_slice() == RECORDED.as_slice();
-    let resumed = resume(alloc, disk, Again::GoesOn) == Ok(true);
-    begun && recorded && resumed && count_records(alloc, disk.file.as_slice()) == Ok(6)
+    let resumed = matches!(resume(alloc, disk, Again::GoesOn), Ok(true));
+    let records = count_records(alloc, disk.file.as_slice());
+    begun && recorded && resumed && matches!(records, Ok(6))
+}
+
+/// Whether the disk is refused at its first byte.
+fn is_refused(answer: Result<bool, JournalFault>) -> bool {
+    matches!(answer, Err(JournalFault::Refused { place: 0 }))
+}
+
+/// What a disk shows.
+enum Shown {
+    /// A run is recorded on it, and goes on with other links.
+    Kept,
+    /// The turns before the last of its journal are known.
+    Replayed,
+    /// No run is begun over its journal.
+    NotBegun,
+    /// No run is resumed of it, since it has no journal.
+    NotResumed,
+    /// It stops after its journal was begun, which ends the run.
+    Ended,
+}
+
+/// Whether the disk shows this.
+fn shows(alloc: Global, disk: &mut MemDisk, shown: &Shown) -> bool {
+    match shown {
+        Shown::Kept => is_kept(alloc, disk),
+        Shown::Replayed => matches!(resume(alloc, disk, Again::IsReplayed), Ok(true)),
+        Shown::NotBegun => is_refused(record(alloc, disk, Asked::Plays)),
+        Shown::NotResumed => is_refused(resume(alloc, disk, Again::GoesOn)),
+        Shown::Ended => {
+            matches!(record(alloc, disk, Asked::Stops), Ok(true)) && disk.faults == 1
+        }
+    }
+}
+
+/// Bytes on a disk, the number of the call at which it stops, if it does, and what it shows.
+type Row = (&'static [u8], Option<u64>, Shown);
+
+const ROWS: &[Row] = &[
+    (b"", None, Shown::Kept),
+    (RECORDED, None, Shown::Replayed),
+    (RECORDED, None, Shown::NotBegun),
+    (b"", None, Shown::NotResumed),
+    (b"", Some(10), Shown::Ended),
+];
+
+/// Whether a disk shows what its row says.
+fn is_shown(alloc: Global, row: &Row) -> bool {
+    match disk_of(alloc, row.0, row.1) {
+        Ok(mut disk) => shows(alloc, &mut disk, &row.2),
+        Err(Memory) => false,
+    }
 }
 
 #[test]
-fn a_run_is_recorded_and_goes_on_with_other_links(rt: HostRuntime) -> Result<(), Fail> {
-    let mut disk = disk_of(rt.alloc(), b"", None)?;
-    assert!(rt; is_kept(rt.alloc(), &mut disk));
-    Ok(())
-}
-
-#[test]
-fn turns_before_the_last_of_a_journal_are_known(rt: HostRuntime) -> Result<(), Fail> {
-    let mut disk = disk_of(rt.alloc(), RECORDED, None)?;
-    assert!(rt; resume(rt.alloc(), &mut disk, Again::IsReplayed) == Ok(true));
-    Ok(())
-}
-
-/// Why no run is begun over a journal, nor resumed of none.
-const REFUSED: Result<bool, JournalFault> = Err(JournalFault::Refused { place: 0 });
-
-#[test]
-fn a_run_is_not_begun_over_a_journal(rt: HostRuntime) -> Result<(), Fail> {
-    let mut disk = disk_of(rt.alloc(), RECORDED, None)?;
-    assert!(rt; record(rt.alloc(), &mut disk, Asked::Plays) == REFUSED);
-    Ok(())
-}
-
-#[test]
-fn a_run_is_not_resumed_of_none(rt: HostRuntime) -> Result<(), Fail> {
-    let mut empty = disk_of(rt.alloc(), b"", None)?;
-    assert!(rt; resume(rt.alloc(), &mut empty, Again::GoesOn) == REFUSED);
-    Ok(())
-}
-
-/// Whether the run ends on a disk that stops after its journal was begun.
-fn is_ended(alloc: Global, disk: &mut MemDisk) -> bool {
-    record(alloc, disk, Asked::Stops) == Ok(true) && disk.faults == 1
-}
-
-#[test]
-fn a_disk_that_stops_ends_a_run(rt: HostRuntime) -> Result<(), Fail> {
-    let mut disk = disk_of(rt.alloc(), b"", Some(10))?;
-    assert!(rt; is_ended(rt.alloc(), &mut disk));
-    Ok(())
+fn runs_are_recorded_and_resumed_on_disks(rt: HostRuntime) {
+    for (number, row) in ROWS.iter().enumerate() {
+        let is_shown = is_shown(rt.alloc(), row);
+        assert!(rt; is_shown, "row {number}");
+    }
 }
