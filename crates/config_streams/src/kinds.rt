@@ -294,8 +294,8 @@ fn runs_kind(
 
 #[tactic(auto, unfolding(crate::specs::Kinds::choosing_or_gathering_kind))]
 fn throttle_kind(env: &[Binding], start: usize, forms: &[Form]) -> Result<Kind, ConfigFault>
-    ensures { GivesAs kind_tree result (choosing_or_gathering_kind_of env.now StreamWord.Throttle start
-        (form_trees forms.now)) }
+    ensures { GivesAs kind_tree result
+        (choosing_or_gathering_kind_of env.now StreamWord.Throttle start (form_trees forms.now)) }
 {
     let count = count_at(env, argument(start, 0, forms)?)?;
     let secs = secs_at(env, argument(start, 1, forms)?)?;
@@ -304,8 +304,8 @@ fn throttle_kind(env: &[Binding], start: usize, forms: &[Form]) -> Result<Kind, 
 
 #[tactic(auto, unfolding(crate::specs::Kinds::choosing_or_gathering_kind))]
 fn rollup_kind(env: &[Binding], start: usize, forms: &[Form]) -> Result<Kind, ConfigFault>
-    ensures { GivesAs kind_tree result (choosing_or_gathering_kind_of env.now StreamWord.Rollup start
-        (form_trees forms.now)) }
+    ensures { GivesAs kind_tree result
+        (choosing_or_gathering_kind_of env.now StreamWord.Rollup start (form_trees forms.now)) }
 {
     let count = count_at(env, argument(start, 0, forms)?)?;
     let secs = secs_at(env, argument(start, 1, forms)?)?;
@@ -329,8 +329,8 @@ fn stable_kind(
     start: usize,
     forms: &[Form],
 ) -> Result<Kind, ConfigFault>
-    ensures { GivesAs kind_tree result (choosing_or_gathering_kind_of env.now StreamWord.Stable start
-        (form_trees forms.now)) }
+    ensures { GivesAs kind_tree result
+        (choosing_or_gathering_kind_of env.now StreamWord.Stable start (form_trees forms.now)) }
 {
     let secs = secs_at(env, argument(start, 0, forms)?)?;
     let field = field_at(alloc, env, argument(start, 1, forms)?)?;

@@ -142,7 +142,8 @@ fn push_read(out: &mut Vec<u8>, link: u64, bytes: &[u8]) -> Result<(), Memory>
 /// Adds how many bytes there are, and the bytes.
 fn push_counted(out: &mut Vec<u8>, bytes: &[u8]) -> Result<(), Memory>
     requires { length bytes.now < 2 ^ 32 }
-    ensures ok { OnOk result (out.new.items ≡ out.old.items ++ (to_be_bytes w32 (length bytes.now) ++ bytes.now)) }
+    ensures ok { OnOk result (out.new.items
+        ≡ out.old.items ++ (to_be_bytes w32 (length bytes.now) ++ bytes.now)) }
     ensures err { OnErr result (IsPrefix out.old.items out.new.items) }
 {
     let count = bytes.len() as u32;
