@@ -14,16 +14,14 @@ fn state_event(alloc: Global, row: &(&str, &str, &str, u32)) -> Event {
     event_of(alloc, host, service, text(alloc, row.2), row.3)
 }
 
-/// Writes events of these hosts, services, states and ttls.
-fn write_all(
-    alloc: Global,
-    index: &mut LiveIndex,
-    rows: &[(&str, &str, &str, u32)],
-) -> Result<(), Memory> {
+/// Writes events of these hosts, services, states and ttls. It answers whether memory is left.
+fn write_all(alloc: Global, index: &mut LiveIndex, rows: &[(&str, &str, &str, u32)]) -> bool {
     for row in rows {
-        index.write(alloc, state_event(alloc, row))?;
+        if index.write(alloc, state_event(alloc, row)).is_err() {
+            return false;
+        }
     }
-    Ok(())
+    true
 }
 
 /// The ttl of the live event of this host and service, or 0 where there is none.
@@ -76,31 +74,31 @@ const GOT: &[(&str, &str, u32)] = &[
     ("z", "cpu", 0),
 ];
 
-/// Whether each event is got by its host and service once all are written.
-fn are_got(alloc: Global, index: &mut LiveIndex) -> bool {
-    write_all(alloc, index, WRITTEN).is_ok() && have_ttls(alloc, index, GOT)
+/// Whether each event is got by its host and service once all are written, of which five are live.
+fn are_got_of(alloc: Global, index: &mut LiveIndex) -> bool {
+    write_all(alloc, index, WRITTEN) && have_ttls(alloc, index, GOT) && index.len() == 5
 }
 
-#[test]
-fn an_event_is_got_by_its_host_and_service(rt: HostRuntime) {
-    let mut index = LiveIndex::fresh(rt.alloc());
-    let got = are_got(rt.alloc(), &mut index);
-    assert!(rt; got && index.len() == 5);
+/// Whether each event of an index is got by its host and service.
+fn are_got(alloc: Global) -> bool {
+    let mut index = LiveIndex::fresh(alloc);
+    are_got_of(alloc, &mut index)
 }
 
-/// Whether an event that is posted gives one notice.
+/// Whether an event that is posted gives one notice and is live.
 fn is_noticed(alloc: Global, core: &mut Core) -> bool {
     let mut notices = Notices::fresh(alloc);
     let event = event(alloc, "a", "-", 60);
-    let mut steps = Steps::fresh(NoLedger);
-    let is_posted = core.post(alloc, event, &mut notices, &mut steps).is_ok();
-    is_posted && notices.as_slice().len() == 1
+    let is_posted = core
+        .post(alloc, event, &mut notices, &mut Steps::fresh(NoLedger))
+        .is_ok();
+    is_posted && notices.as_slice().len() == 1 && core.live() == 1
 }
 
 /// Whether an event that is posted gives one notice and is live.
 fn is_posted(alloc: Global, plan: ReadyPlan) -> bool {
     match Core::fresh(alloc, plan, None, 100) {
-        Ok(mut core) => is_noticed(alloc, &mut core) && core.live() == 1,
+        Ok(mut core) => is_noticed(alloc, &mut core),
         Err(Memory) => false,
     }
 }
@@ -114,7 +112,8 @@ fn is_posted_to(alloc: Global, config: &str) -> bool {
 }
 
 #[test]
-fn an_event_is_posted(rt: HostRuntime) {
-    let posted = is_posted_to(rt.alloc(), "(streams index (notice \"n\"))");
-    assert!(rt; posted);
+fn an_event_is_got_by_its_host_and_service_and_is_posted(rt: HostRuntime) {
+    let alloc = rt.alloc();
+    assert!(rt; are_got(alloc));
+    assert!(rt; is_posted_to(alloc, "(streams index (notice \"n\"))"));
 }

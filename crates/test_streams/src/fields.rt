@@ -63,42 +63,45 @@ enum Row<'a> {
     Text(&'a str),
 }
 
-fn value(alloc: Global, row: &Row) -> Result<Value, Memory> {
+/// The value of the row. Where memory is out it is nil, and a comparison then fails.
+fn value(alloc: Global, row: &Row) -> Value {
     match row {
-        Row::Nil => Ok(Value::Nil),
-        Row::Number(number) => Ok(Value::Number(*number)),
-        Row::Text(chars) => Ok(Value::Text(Text::from_str(alloc, chars)?)),
+        Row::Nil => Value::Nil,
+        Row::Number(number) => Value::Number(*number),
+        Row::Text(chars) => match text(alloc, chars) {
+            Some(chars) => Value::Text(chars),
+            None => Value::Nil,
+        },
     }
 }
 
 /// The field that the name means, or none where memory is out.
 fn field(alloc: Global, name: &str) -> Option<Field> {
-    match Text::from_str(alloc, name) {
-        Ok(name) => Field::named(name),
-        Err(_) => None,
+    match text(alloc, name) {
+        Some(name) => Field::named(name),
+        None => None,
     }
 }
 
-/// Appends a set of the named field to the value.
-fn push_value(alloc: Global, sets: &mut Sets, name: &str, value: Value) -> Result<(), Memory> {
+/// Appends a set of the named field. It answers whether memory is left.
+fn push_set(alloc: Global, sets: &mut Sets, name: &str, row: &Row) -> bool {
     match field(alloc, name) {
-        Some(field) => sets.push(alloc, Set { field, value }),
-        None => Err(Memory),
+        Some(field) => {
+            let value = value(alloc, row);
+            sets.push(alloc, Set { field, value }).is_ok()
+        }
+        None => false,
     }
 }
 
-fn push_set(alloc: Global, sets: &mut Sets, name: &str, row: &Row) -> Result<(), Memory> {
-    match value(alloc, row) {
-        Ok(value) => push_value(alloc, sets, name, value),
-        Err(Memory) => Err(Memory),
-    }
-}
-
-fn push_sets(alloc: Global, sets: &mut Sets, rows: &[(&str, Row)]) -> Result<(), Memory> {
+/// Appends the sets of the rows. It answers whether memory is left.
+fn push_sets(alloc: Global, sets: &mut Sets, rows: &[(&str, Row)]) -> bool {
     for row in rows {
-        push_set(alloc, sets, row.0, &row.1)?;
+        if !push_set(alloc, sets, row.0, &row.1) {
+            return false;
+        }
     }
-    Ok(())
+    true
 }
 
 /// Whether the time in microseconds and the raw metrics are as they were.
@@ -130,8 +133,7 @@ fn is_full_set(alloc: Global, sets: &Sets, wanted: &str) -> bool {
 /// Whether the full event is so once the sets of the rows are made.
 fn is_set(alloc: Global, rows: &[(&str, Row)], wanted: &str) -> bool {
     let mut sets = Sets::fresh(alloc);
-    let is_pushed = push_sets(alloc, &mut sets, rows).is_ok();
-    is_pushed && is_full_set(alloc, &sets, wanted)
+    push_sets(alloc, &mut sets, rows) && is_full_set(alloc, &sets, wanted)
 }
 
 /// Fields that are set twice, and how the full event is then written.
@@ -159,12 +161,6 @@ const MISFITS: &[(&str, Row<'static>)] = &[
 
 const NOT_SET: &str =
     "{host=\"a\" service=\"cpu\" state=\"ok\" description=\"fine\" time=5 ttl=60 metric=-3 @\"rack\"=\"r7\" @\"room\"=\"\" @\"rack\"=\"r8\" @\"bare\"}";
-
-#[test]
-fn a_field_is_set_twice_and_what_does_not_fit_is_not_set(rt: HostRuntime) {
-    assert!(rt; is_set(rt.alloc(), TWICE, SET_TWICE));
-    assert!(rt; is_set(rt.alloc(), MISFITS, NOT_SET));
-}
 
 /// Whether the event is so with the defaults.
 fn is_filled(alloc: Global, sets: &Sets, event: Event, wanted: &str) -> bool {
@@ -197,12 +193,10 @@ fn are_filled(alloc: Global, sets: &Sets) -> bool {
         && is_filled(alloc, sets, bare_event(alloc), BARE_FILLED)
 }
 
-#[test]
-fn a_field_has_two_defaults(rt: HostRuntime) {
-    let mut sets = Sets::fresh(rt.alloc());
-    let is_pushed = push_sets(rt.alloc(), &mut sets, DEFAULTS).is_ok();
-    let are_filled = is_pushed && are_filled(rt.alloc(), &sets);
-    assert!(rt; are_filled);
+/// Whether a field has two defaults.
+fn are_defaults(alloc: Global) -> bool {
+    let mut sets = Sets::fresh(alloc);
+    push_sets(alloc, &mut sets, DEFAULTS) && are_filled(alloc, &sets)
 }
 
 /// Whether this is the branch of the event.
@@ -235,7 +229,7 @@ fn are_branches(alloc: Global, full: &Event, bare: &Event, row: &Branches) -> bo
 }
 
 /// Whether the events have the branches of all rows.
-fn are_parted(alloc: Global, full: &Event, bare: &Event) -> bool {
+fn have_branches(alloc: Global, full: &Event, bare: &Event) -> bool {
     for row in BRANCHES {
         if !are_branches(alloc, full, bare, row) {
             return false;
@@ -244,25 +238,28 @@ fn are_parted(alloc: Global, full: &Event, bare: &Event) -> bool {
     true
 }
 
-#[test]
-fn a_rule_parts_events(rt: HostRuntime) {
-    let full = full_event(rt.alloc());
-    let bare = bare_event(rt.alloc());
-    let parted = are_parted(rt.alloc(), &full, &bare);
-    assert!(rt; parted);
+/// Whether rules part the full and the bare event.
+fn are_parted(alloc: Global) -> bool {
+    let full = full_event(alloc);
+    let bare = bare_event(alloc);
+    have_branches(alloc, &full, &bare)
 }
 
-/// Whether a count of the events makes no event.
-fn is_nothing_folded(alloc: Global, events: &Events) -> bool {
-    match apply_fold(alloc, Fold::Count, events) {
+/// Whether a count of no event makes no event.
+fn is_nothing_folded(alloc: Global) -> bool {
+    match apply_fold(alloc, Fold::Count, &Events::fresh(alloc)) {
         Ok(folded) => folded.is_none(),
         Err(Memory) => false,
     }
 }
 
 #[test]
-fn nothing_is_folded_of_no_event(rt: HostRuntime) {
-    let none = Events::fresh(rt.alloc());
-    let is_nothing = is_nothing_folded(rt.alloc(), &none);
-    assert!(rt; is_nothing);
+fn fields_are_set_and_have_defaults_and_events_are_parted_and_folded(rt: HostRuntime) {
+    let alloc = rt.alloc();
+    // A field is set twice, and what does not fit is not set.
+    assert!(rt; is_set(alloc, TWICE, SET_TWICE));
+    assert!(rt; is_set(alloc, MISFITS, NOT_SET));
+    assert!(rt; are_defaults(alloc));
+    assert!(rt; are_parted(alloc));
+    assert!(rt; is_nothing_folded(alloc));
 }

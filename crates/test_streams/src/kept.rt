@@ -60,16 +60,6 @@ fn kind_of(keeps: &Keeps, count: u32, secs: u32) -> Kind {
     }
 }
 
-/// The state of a stream of the kind at the moment 0, where its numbers are in their ranges.
-fn state_of(
-    alloc: Global,
-    keeps: &Keeps,
-    count: u32,
-    secs: u32,
-) -> Result<Option<KeptState>, Memory> {
-    KeptState::fresh(alloc, &kind_of(keeps, count, secs), 0)
-}
-
 /// How many items pass as an event of the moment 0 comes.
 fn pass(alloc: Global, state: &mut KeptState) -> Result<usize, Memory> {
     let mut out = Emissions::fresh(alloc);
@@ -90,11 +80,16 @@ fn pass_all(alloc: Global, state: &mut KeptState, events: u32) -> Result<usize, 
 
 /// How many items a stream of the kind passes on of this many events, all of the moment 0, where its numbers are in
 /// their ranges, and memory is not out.
-fn passed(alloc: Global, keeps: &Keeps, count: u32, secs: u32, events: u32) -> Option<usize> {
-    match state_of(alloc, keeps, count, secs) {
+fn passed_by(alloc: Global, kind: &Kind, events: u32) -> Option<usize> {
+    match KeptState::fresh(alloc, kind, 0) {
         Ok(Some(mut state)) => pass_all(alloc, &mut state, events).ok(),
         Ok(None) | Err(Memory) => None,
     }
+}
+
+/// The same, with the kind that has this count and these seconds.
+fn passed(alloc: Global, keeps: &Keeps, count: u32, secs: u32, events: u32) -> Option<usize> {
+    passed_by(alloc, &kind_of(keeps, count, secs), events)
 }
 
 /// How many of the eleven kinds have a state where they have these numbers.
@@ -120,14 +115,6 @@ const MADE: &[(u32, u32, u32)] = &[
     (u32::MAX, u32::MAX, 1),
 ];
 
-#[test]
-fn a_state_is_made_of_numbers_in_their_ranges(rt: HostRuntime) {
-    for (count, secs, wanted) in MADE {
-        let made = made(rt.alloc(), *count, *secs);
-        assert!(rt; made == *wanted, "{count} {secs}");
-    }
-}
-
 /// Kinds, numbers of events, and how many items pass.
 const PASSED: &[(Keeps, u32, usize)] = &[
     (Keeps::Throttle, 1_000_001, 1_000_000),
@@ -141,7 +128,11 @@ const PASSED: &[(Keeps, u32, usize)] = &[
 ];
 
 #[test]
-fn a_million_events_are_counted_and_kept(rt: HostRuntime) {
+fn a_state_has_numbers_in_their_ranges_and_counts_a_million_events(rt: HostRuntime) {
+    for (count, secs, wanted) in MADE {
+        let made = made(rt.alloc(), *count, *secs);
+        assert!(rt; made == *wanted, "{count} {secs}");
+    }
     for (keeps, events, wanted) in PASSED {
         let passed = passed(rt.alloc(), keeps, 1_000_000, 1, *events);
         assert!(rt; passed == Some(*wanted), "{events}");

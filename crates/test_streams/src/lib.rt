@@ -1,5 +1,6 @@
 //! Tests of the streams, the index and the core, of what no row of `test_commands` shows: calls that no command makes,
-//! values that no configuration can spell, counts of what was visited, and as many events as a count allows.
+//! values that no configuration can spell, counts of what was visited, as many events as a count allows, and which
+//! configurations have keys that are apart.
 #![tactic(auto)]
 
 #[cfg(test)]
@@ -10,6 +11,8 @@ mod calls;
 mod fields;
 #[cfg(test)]
 mod kept;
+#[cfg(test)]
+mod keys;
 #[cfg(test)]
 mod outputs;
 #[cfg(test)]

@@ -14,41 +14,46 @@ fn post(
     now: u64,
     outputs: &mut Outputs,
     steps: &mut Steps<CountLedger>,
-) -> Result<(), Memory> {
+) -> bool {
     let event = event(alloc, host, "-", 60);
     tree.item(alloc, event, now.min(1 << 40), outputs, steps)
+        .is_ok()
 }
 
-/// Events of "a" and "b" come at 100, then a second passes, and one of "cb" comes.
+/// Events of "a" and "b" come at 100, then a second passes, and one of "cb" comes. It answers whether memory is left.
 fn play(
     alloc: Global,
     tree: &mut Tree,
     outputs: &mut Outputs,
     steps: &mut Steps<CountLedger>,
-) -> Result<(), Memory> {
-    post(alloc, tree, "a", 100, outputs, steps)?;
-    post(alloc, tree, "b", 100, outputs, steps)?;
-    tree.tick(alloc, 101, outputs, steps)?;
-    post(alloc, tree, "cb", 101, outputs, steps)
+) -> bool {
+    post(alloc, tree, "a", 100, outputs, steps)
+        && post(alloc, tree, "b", 100, outputs, steps)
+        && tree.tick(alloc, 101, outputs, steps).is_ok()
+        && post(alloc, tree, "cb", 101, outputs, steps)
 }
 
-/// Appends the names of the notices, and `write` for a write, each with a blank.
-fn put_names(out: &mut String, outputs: &Outputs) -> Result<(), Memory> {
-    for output in outputs.as_slice() {
-        match output {
-            Output::Notice(notice) => out.push_str(notice.name.as_str())?,
-            Output::Write(_) => out.push_str("write")?,
-        }
-        out.push_str(" ")?;
+/// The name of the notice, or `write`.
+fn name(output: &Output) -> &str {
+    match output {
+        Output::Notice(notice) => notice.name.as_str(),
+        Output::Write(_) => "write",
     }
-    Ok(())
+}
+
+/// Appends the names of the outputs, each with a blank. Where memory is out, a comparison then fails.
+fn put_names(out: &mut String, outputs: &Outputs) {
+    for output in outputs.as_slice() {
+        let _ = out.push_str(name(output));
+        let _ = out.push_str(" ");
+    }
 }
 
 /// Whether the outputs have these names.
 fn are_named(alloc: Global, outputs: &Outputs, names: &str) -> bool {
     let mut out = String::new(alloc);
-    let is_put = put_names(&mut out, outputs).is_ok();
-    is_put && out.as_str() == names
+    put_names(&mut out, outputs);
+    out.as_str() == names
 }
 
 /// Whether the tree gives outputs of these names.
@@ -59,8 +64,7 @@ fn plays_names(
     steps: &mut Steps<CountLedger>,
 ) -> bool {
     let mut outputs = Outputs::fresh(alloc);
-    let is_played = play(alloc, tree, &mut outputs, steps).is_ok();
-    is_played && are_named(alloc, &outputs, names)
+    play(alloc, tree, &mut outputs, steps) && are_named(alloc, &outputs, names)
 }
 
 /// A configuration, the names of its outputs, and how many forks and entries are counted.

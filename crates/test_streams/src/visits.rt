@@ -41,28 +41,34 @@ fn numbered(alloc: Global, letter: char, number: u32) -> Option<Text> {
     }
 }
 
-/// Writes an event of the host and service.
-fn write_one(alloc: Global, index: &mut LiveIndex, host: u32, service: u32) -> Result<(), Memory> {
+/// Writes an event of the host and service. It answers whether memory is left, as all that write do here.
+fn write_one(alloc: Global, index: &mut LiveIndex, host: u32, service: u32) -> bool {
     let ttl = ttl_of(host, service);
     let host = numbered(alloc, 'h', host);
     let service = numbered(alloc, 's', service);
-    index.write(alloc, event_of(alloc, host, service, None, ttl))
+    index
+        .write(alloc, event_of(alloc, host, service, None, ttl))
+        .is_ok()
 }
 
 /// Writes events of ten services of the host.
-fn write_host(alloc: Global, index: &mut LiveIndex, host: u32) -> Result<(), Memory> {
+fn write_host(alloc: Global, index: &mut LiveIndex, host: u32) -> bool {
     for service in 0..10 {
-        write_one(alloc, index, host, service)?;
+        if !write_one(alloc, index, host, service) {
+            return false;
+        }
     }
-    Ok(())
+    true
 }
 
 /// Writes ten events of each of 100 hosts.
-fn write_thousand(alloc: Global, index: &mut LiveIndex) -> Result<(), Memory> {
+fn write_thousand(alloc: Global, index: &mut LiveIndex) -> bool {
     for host in 0..100 {
-        write_host(alloc, index, host)?;
+        if !write_host(alloc, index, host) {
+            return false;
+        }
     }
-    Ok(())
+    true
 }
 
 /// What is asked of an index by a query.
@@ -74,53 +80,72 @@ enum Asked {
     Length,
 }
 
-/// How many events a search copies, and how many entries it visits.
-fn copies(alloc: Global, index: &mut LiveIndex, pred: &mut Pred) -> Result<(usize, u64), Memory> {
+/// Whether a search copies this many events, and visits this many entries.
+fn copies(
+    alloc: Global,
+    index: &mut LiveIndex,
+    pred: &mut Pred,
+    wanted: usize,
+    visited: u64,
+) -> bool {
     let mut out = Events::fresh(alloc);
     let mut steps = no_steps();
-    match index.search(alloc, pred, &mut out, &mut steps) {
-        Ok(()) => Ok((out.len(), entries(&steps))),
-        Err(Memory) => Err(Memory),
+    let is_searched = index.search(alloc, pred, &mut out, &mut steps).is_ok();
+    is_searched && out.len() == wanted && entries(&steps) == visited
+}
+
+/// Whether this many bytes are measured, and this many entries were visited.
+fn is_length(
+    length: Result<usize, Memory>,
+    steps: &Steps<CountLedger>,
+    wanted: usize,
+    visited: u64,
+) -> bool {
+    match length {
+        Ok(length) => length == wanted && entries(steps) == visited,
+        Err(Memory) => false,
     }
 }
 
-/// How many bytes a reply has, and how many entries are visited to know it.
-fn length(alloc: Global, index: &mut LiveIndex, pred: &mut Pred) -> Result<(usize, u64), Memory> {
+/// Whether a reply has this many bytes, and this many entries are visited to know it.
+fn measures(
+    alloc: Global,
+    index: &mut LiveIndex,
+    pred: &mut Pred,
+    wanted: usize,
+    visited: u64,
+) -> bool {
     let mut steps = no_steps();
-    let len = index.found_len(alloc, pred, &mut steps)?;
-    Ok((len, entries(&steps)))
+    let length = index.found_len(alloc, pred, &mut steps);
+    is_length(length, &steps, wanted, visited)
 }
 
-/// What is asked with the predicate, and how many entries are visited to know it.
-fn answer_by(
+/// Whether the predicate is answered so, and this many entries are visited.
+fn answers_by(
     alloc: Global,
     index: &mut LiveIndex,
     pred: &mut Pred,
     asked: Asked,
-) -> Result<(usize, u64), Memory> {
+    wanted: usize,
+    visited: u64,
+) -> bool {
     match asked {
-        Asked::Copies => copies(alloc, index, pred),
-        Asked::Length => length(alloc, index, pred),
+        Asked::Copies => copies(alloc, index, pred, wanted, visited),
+        Asked::Length => measures(alloc, index, pred, wanted, visited),
     }
 }
 
 /// The same, with the predicate of the query.
-fn answer(
+fn answers(
     alloc: Global,
     index: &mut LiveIndex,
     query: &str,
     asked: Asked,
-) -> Result<(usize, u64), Memory> {
+    wanted: usize,
+    visited: u64,
+) -> bool {
     match rule(alloc, query) {
-        Ok(mut pred) => answer_by(alloc, index, &mut pred, asked),
-        Err(Memory) => Err(Memory),
-    }
-}
-
-/// Whether this is answered, and this many entries were visited.
-fn is_answer(answer: Result<(usize, u64), Memory>, wanted: usize, visited: u64) -> bool {
-    match answer {
-        Ok((count, entries)) => count == wanted && entries == visited,
+        Ok(mut pred) => answers_by(alloc, index, &mut pred, asked, wanted, visited),
         Err(Memory) => false,
     }
 }
@@ -142,8 +167,7 @@ const SEARCHES: &[(&str, usize, u64)] = &[
 /// Whether a search visits one host where it asks for one.
 fn are_searched(alloc: Global, index: &mut LiveIndex) -> bool {
     for (query, found, visited) in SEARCHES {
-        let copied = answer(alloc, index, query, Asked::Copies);
-        if !is_answer(copied, *found, *visited) {
+        if !answers(alloc, index, query, Asked::Copies, *found, *visited) {
             return false;
         }
     }
@@ -151,19 +175,18 @@ fn are_searched(alloc: Global, index: &mut LiveIndex) -> bool {
 }
 
 /// Writes an event of the host and of the service "s1" that is longer than the one in whose place it comes.
-fn write_longer(alloc: Global, index: &mut LiveIndex, host: &str) -> Result<(), Memory> {
+fn write_longer(alloc: Global, index: &mut LiveIndex, host: &str) -> bool {
     let mut longer = event(alloc, host, "s1", 60);
     longer.metric = Some(1);
-    index.write(alloc, longer)
+    index.write(alloc, longer).is_ok()
 }
 
 /// Whether a reply with the ten events of a host is measured, and again after a longer one takes the place of one of
 /// them.
 fn are_measured(alloc: Global, index: &mut LiveIndex) -> bool {
-    let before = answer(alloc, index, "host = \"h7\"", Asked::Length);
-    let is_written = write_longer(alloc, index, "h7").is_ok();
-    let after = answer(alloc, index, "host = \"h7\"", Asked::Length);
-    is_written && is_answer(before, 172, 10) && is_answer(after, 174, 10)
+    answers(alloc, index, "host = \"h7\"", Asked::Length, 172, 10)
+        && write_longer(alloc, index, "h7")
+        && answers(alloc, index, "host = \"h7\"", Asked::Length, 174, 10)
 }
 
 /// The predicate that every event meets.
@@ -176,39 +199,36 @@ fn always(alloc: Global) -> Result<Pred, Memory>
     }
 }
 
-/// How many bytes a reply has with all events, and how many entries are visited to know it.
-fn all_measured_by(
+/// Whether a reply with all events has this many bytes, and this many entries are visited to know it.
+fn measures_all_by(
     alloc: Global,
     index: &mut LiveIndex,
     pred: &mut Pred,
-) -> Result<(usize, u64), Memory>
+    wanted: usize,
+    visited: u64,
+) -> bool
     requires { pred.old ≡ Always }
 {
     let mut steps = no_steps();
-    let len = index.all_len(alloc, pred, &mut steps)?;
-    Ok((len, entries(&steps)))
+    let length = index.all_len(alloc, pred, &mut steps);
+    is_length(length, &steps, wanted, visited)
 }
 
 /// The same, with the predicate that every event meets.
-fn all_measured(alloc: Global, index: &mut LiveIndex) -> Result<(usize, u64), Memory> {
+fn measures_all(alloc: Global, index: &mut LiveIndex, wanted: usize, visited: u64) -> bool {
     match always(alloc) {
-        Ok(mut pred) => all_measured_by(alloc, index, &mut pred),
-        Err(Memory) => Err(Memory),
+        Ok(mut pred) => measures_all_by(alloc, index, &mut pred, wanted, visited),
+        Err(Memory) => false,
     }
 }
 
 /// Whether a reply with all events is measured once, and again after a longer one takes the place of one of them.
 fn are_all_measured(alloc: Global, index: &mut LiveIndex) -> bool {
-    let before = all_measured(alloc, index);
-    let same = all_measured(alloc, index);
-    let is_written = write_longer(alloc, index, "h8").is_ok();
-    let after = all_measured(alloc, index);
-    let found = answer(alloc, index, "true", Asked::Length);
-    is_written
-        && is_answer(before, 17_904, 1_000)
-        && is_answer(same, 17_904, 0)
-        && is_answer(after, 17_906, 1_000)
-        && is_answer(found, 17_906, 1_000)
+    measures_all(alloc, index, 17_904, 1_000)
+        && measures_all(alloc, index, 17_904, 0)
+        && write_longer(alloc, index, "h8")
+        && measures_all(alloc, index, 17_906, 1_000)
+        && answers(alloc, index, "true", Asked::Length, 17_906, 1_000)
 }
 
 /// Whether a look-up visits one event.
@@ -229,19 +249,24 @@ fn is_reaped(alloc: Global, index: &mut LiveIndex) -> bool {
     reaped && out.len() == 3 && entries(&steps) <= 6
 }
 
-/// Whether the calls of an index with a thousand events visit no more than they have to.
+/// Whether the calls of an index with a thousand events visit no more than they have to, and 997 are left.
 fn are_visited(alloc: Global, index: &mut LiveIndex) -> bool {
-    write_thousand(alloc, index).is_ok()
+    write_thousand(alloc, index)
         && are_searched(alloc, index)
         && are_measured(alloc, index)
         && are_all_measured(alloc, index)
         && is_looked_up(alloc, index)
         && is_reaped(alloc, index)
+        && index.len() == 997
+}
+
+/// Whether an index visits what is asked for.
+fn is_visited(alloc: Global) -> bool {
+    let mut index = LiveIndex::fresh(alloc);
+    are_visited(alloc, &mut index)
 }
 
 #[test]
 fn an_index_visits_what_is_asked_for(rt: HostRuntime) {
-    let mut index = LiveIndex::fresh(rt.alloc());
-    let visited = are_visited(rt.alloc(), &mut index);
-    assert!(rt; visited && index.len() == 997);
+    assert!(rt; is_visited(rt.alloc()));
 }

@@ -4,10 +4,9 @@ use ev_types::Field;
 use key_laws::keys_are_apart;
 use sexp_config::read_config;
 use std::alloc::Global;
-use std::test::Fail;
 
 /// What is noticed of one host depends on what comes of it alone.
-const APART: [&str; 15] = [
+const APART: &[&str] = &[
     "",
     "(streams index)",
     "(streams (expired (notice \"gone\")) index)",
@@ -26,7 +25,7 @@ const APART: [&str; 15] = [
 ];
 
 /// It may depend on what comes of others.
-const MIXED: [&str; 11] = [
+const MIXED: &[&str] = &[
     "(streams (throttle 1 5 (notice \"n\")))",
     "(streams (by :host index) (throttle 1 5 (notice \"n\")))",
     "(streams (changed :state (by :host index)))",
@@ -41,37 +40,47 @@ const MIXED: [&str; 11] = [
 ];
 
 /// Hosts are apart, and a host's services are not.
-const BY_HOST_ALONE: [&str; 4] = [
+const BY_HOST_ALONE: &[&str] = &[
     "(streams (by :host (throttle 1 5 index)))",
     "(streams (by [:host :state] (throttle 1 5 index)))",
     "(streams (by [:host :service] index (sdo (default {:ttl 5 :service \"a\"} index))))",
     "(periodically-expire 5 {:keep-keys [:host :tags]}) (streams (by [:host :service] index))",
 ];
 
-/// The first text for which the test gives another answer.
-fn first_other(
-    alloc: Global,
-    fields: &[Field],
-    texts: &[&str],
-    wanted: bool,
-) -> Result<Option<usize>, Fail> {
-    for (i, text) in texts.iter().enumerate() {
-        let config = read_config(alloc, text.as_bytes())?;
-        if keys_are_apart(fields, config.plan.plan(), &config.expiry) != wanted {
-            return Ok(Some(i));
+/// Whether the test gives this answer for the configuration.
+fn is_answer(alloc: Global, fields: &[Field], text: &str, wanted: bool) -> bool {
+    match read_config(alloc, text.as_bytes()) {
+        Ok(config) => keys_are_apart(fields, config.plan.plan(), &config.expiry) == wanted,
+        Err(_) => false,
+    }
+}
+
+/// Whether the test gives this answer for each of the configurations.
+fn are_answers(alloc: Global, fields: &[Field], texts: &[&str], wanted: bool) -> bool {
+    for text in texts {
+        if !is_answer(alloc, fields, text, wanted) {
+            return false;
         }
     }
-    Ok(None)
+    true
+}
+
+/// Whether the test of hosts gives this answer for each of the configurations.
+fn are_hosts(alloc: Global, texts: &[&str], wanted: bool) -> bool {
+    are_answers(alloc, &[Field::Host], texts, wanted)
+}
+
+/// Whether the test of hosts and services gives this answer for each of the configurations.
+fn are_both(alloc: Global, texts: &[&str], wanted: bool) -> bool {
+    are_answers(alloc, &[Field::Service, Field::Host], texts, wanted)
 }
 
 #[test]
-fn configurations_keep_keys_apart(rt: HostRuntime) -> Result<(), Fail> {
-    let hosts = [Field::Host];
-    let both = [Field::Service, Field::Host];
-    assert!(rt; first_other(rt.alloc(), &hosts, &APART, true)?.is_none());
-    assert!(rt; first_other(rt.alloc(), &hosts, &MIXED, false)?.is_none());
-    assert!(rt; first_other(rt.alloc(), &both, &MIXED, false)?.is_none());
-    assert!(rt; first_other(rt.alloc(), &hosts, &BY_HOST_ALONE, true)?.is_none());
-    assert!(rt; first_other(rt.alloc(), &both, &BY_HOST_ALONE, false)?.is_none());
-    Ok(())
+fn configurations_keep_keys_apart(rt: HostRuntime) {
+    let alloc = rt.alloc();
+    assert!(rt; are_hosts(alloc, APART, true));
+    assert!(rt; are_hosts(alloc, MIXED, false));
+    assert!(rt; are_both(alloc, MIXED, false));
+    assert!(rt; are_hosts(alloc, BY_HOST_ALONE, true));
+    assert!(rt; are_both(alloc, BY_HOST_ALONE, false));
 }
