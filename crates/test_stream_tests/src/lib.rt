@@ -1,5 +1,0 @@
-//! Tests of configurations, as they are read and run.
-#![tactic(auto)]
-
-#[cfg(test)]
-mod verdicts;
