@@ -3,15 +3,50 @@
 use crate::events::Named;
 use crate::reading::{read_moment, two_texts};
 use crate::shown::put_shown;
-use crate::{fields, frames, graphite, messages, queries, values};
+use crate::{configs, fields, forms, frames, graphite, messages, plans, queries, suites, values};
 use ev_types::Blob;
 use list_laws::{is_prefix, window_of};
 use std::alloc::Global;
-use test_rows::{RowFault, read_number, read_spelled, said, split_word};
+use test_rows::{RowFault, Tally, read_number, read_spelled, said, split_word};
+
+/// Judges a row of this kind by what comes of it.
+pub fn judge_row(
+    alloc: Global,
+    kind: &str,
+    asked: &str,
+    wanted: &[u8],
+    named: &[Named],
+    tally: &mut Tally,
+) -> Result<(), RowFault> {
+    let came = answer(alloc, kind, asked, wanted, named)?;
+    Ok(tally.judge(kind, asked, wanted, came.as_slice())?)
+}
+
+/// The same where bytes can be spelled in what is wanted.
+pub fn judge_spelled(
+    alloc: Global,
+    kind: &str,
+    asked: &str,
+    wanted: &str,
+    named: &[Named],
+    tally: &mut Tally,
+) -> Result<(), RowFault> {
+    let wanted = read_spelled(alloc, wanted)?;
+    judge_row(alloc, kind, asked, wanted.as_slice(), named, tally)
+}
 
 /// What comes of a row of this kind.
-pub fn answer(alloc: Global, kind: &str, asked: &str, named: &[Named]) -> Result<Blob, RowFault> {
+fn answer(
+    alloc: Global,
+    kind: &str,
+    asked: &str,
+    wanted: &[u8],
+    named: &[Named],
+) -> Result<Blob, RowFault> {
     match kind {
+        "config" | "written" | "patterns" | "plan" | "forms" | "form-count" | "lines" | "tests" => {
+            answer_of_spelled(alloc, kind, asked, wanted)
+        }
         "put"
         | "varint"
         | "tag-and-length"
@@ -21,6 +56,30 @@ pub fn answer(alloc: Global, kind: &str, asked: &str, named: &[Named]) -> Result
         | "rewritten"
         | "query" => bytes_answer(alloc, kind, asked),
         _ => line_answer(alloc, kind, asked, named),
+    }
+}
+
+/// What comes of a row that asks for a configuration, tests of one, s-expressions or a plan.
+fn answer_of_spelled(
+    alloc: Global,
+    kind: &str,
+    asked: &str,
+    wanted: &[u8],
+) -> Result<Blob, RowFault> {
+    let text = read_spelled(alloc, asked)?;
+    text_answer(alloc, kind, text.as_slice(), wanted)
+}
+
+fn text_answer(alloc: Global, kind: &str, text: &[u8], wanted: &[u8]) -> Result<Blob, RowFault> {
+    match kind {
+        "config" => configs::config_answer(alloc, text),
+        "written" => configs::written_again(alloc, text, wanted),
+        "patterns" => configs::patterns_answer(alloc, text),
+        "plan" => plans::plan_answer(alloc, text),
+        "forms" => forms::forms_answer(alloc, text),
+        "form-count" => forms::count_answer(alloc, text),
+        "lines" => forms::lines_answer(alloc, text),
+        _ => suites::tests_answer(alloc, text),
     }
 }
 

@@ -1,18 +1,25 @@
-//! Rows of tests of messages, fields, frames, values and queries, from the files that the arguments name
-//! (`docs/TEST_ROWS.md`).
+//! Rows of configurations, of tests of them, of s-expressions and of plans, and of messages, fields, frames, values and
+//! queries, from the files that the arguments name (`docs/TEST_ROWS.md`).
 #![tactic(auto)]
 
+mod answers;
+mod block;
+mod configs;
 mod events;
 mod fields;
+mod forms;
 mod frames;
+mod gaps;
 mod graphite;
 mod kinds;
 mod messages;
+mod plans;
 mod queries;
 mod reading;
 mod rising;
 mod sheet;
 mod shown;
+mod suites;
 mod values;
 
 use crate::sheet::read_sheet;

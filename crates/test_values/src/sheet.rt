@@ -1,22 +1,39 @@
 //! A file of rows.
 
+use crate::block::Block;
 use crate::events::{Named, read_event};
-use crate::kinds::answer;
+use crate::gaps::judge_block;
+use crate::kinds::judge_spelled;
 use crate::rising::{Rising, judge_rising};
 use ev_types::Memory;
 use std::alloc::Global;
-use test_rows::{Field, Row, RowFault, Tally, read_rows, read_spelled, split_row};
+use test_rows::{Field, Row, RowFault, Tally, read_rows, split_row};
 
-/// Adds what is found of the rows of the text.
+/// Judges the rows of the text.
 pub fn read_sheet(alloc: Global, text: &str, tally: &mut Tally) -> Result<(), Memory> {
     let rows = read_rows(alloc, text)?;
-    let mut named = Vec::new(alloc);
-    read_blocks(alloc, rows.as_slice(), &mut named, tally)
+    read_rows_of(alloc, rows.as_slice(), tally)
 }
 
-fn read_blocks(
+fn read_rows_of<'a>(alloc: Global, rows: &'a [Row], tally: &mut Tally) -> Result<(), Memory> {
+    let mut block: Block<'a> = Block::fresh(alloc);
+    read_and_name(alloc, rows, &mut block, tally)
+}
+
+fn read_and_name<'a>(
     alloc: Global,
-    rows: &[Row],
+    rows: &'a [Row],
+    block: &mut Block<'a>,
+    tally: &mut Tally,
+) -> Result<(), Memory> {
+    let mut named = Vec::new(alloc);
+    read_blocks(alloc, rows, block, &mut named, tally)
+}
+
+fn read_blocks<'a>(
+    alloc: Global,
+    rows: &'a [Row],
+    block: &mut Block<'a>,
     named: &mut Vec<Named>,
     tally: &mut Tally,
 ) -> Result<(), Memory> {
@@ -24,40 +41,57 @@ fn read_blocks(
         if let Some(unread) = row.unread {
             tally.note(unread.line, Err(RowFault::Unreadable))?;
         }
-        read_block(alloc, row.fields.as_slice(), named, tally)?;
+        read_block(alloc, row.fields.as_slice(), block, named, tally)?;
+        judge_gaps(alloc, row.line, block, tally)?;
     }
     Ok(())
 }
 
-/// Reads the lines of a block, and judges its rows.
-fn read_block(
+/// Reads the lines of a block, and judges its rows of one line and its rising values.
+fn read_block<'a>(
     alloc: Global,
-    fields: &[Field],
+    fields: &'a [Field],
+    block: &mut Block<'a>,
     named: &mut Vec<Named>,
     tally: &mut Tally,
 ) -> Result<(), Memory> {
     let mut rising = Rising::fresh(alloc);
-    read_lines(alloc, fields, named, &mut rising, tally)
+    read_lines(alloc, fields, block, named, &mut rising, tally)
 }
 
-fn read_lines(
+/// Judges the fillings of the gaps of the block that begins at the line, and leaves them out.
+fn judge_gaps(
     alloc: Global,
-    fields: &[Field],
+    line: u64,
+    block: &mut Block<'_>,
+    tally: &mut Tally,
+) -> Result<(), Memory> {
+    let judged = judge_block(alloc, block, tally);
+    tally.note(line, judged)?;
+    block.clear();
+    Ok(())
+}
+
+fn read_lines<'a>(
+    alloc: Global,
+    fields: &'a [Field],
+    block: &mut Block<'a>,
     named: &mut Vec<Named>,
     rising: &mut Rising,
     tally: &mut Tally,
 ) -> Result<(), Memory> {
     for field in fields {
-        let read = read_line(alloc, field, named, rising, tally);
+        let read = read_line(alloc, field, block, named, rising, tally);
         tally.note(field.line, read)?;
     }
     judge_rising(alloc, rising, tally)
 }
 
 /// Reads a line of the block, or compares what comes of a row of one line with what it wants.
-fn read_line(
+fn read_line<'a>(
     alloc: Global,
-    field: &Field,
+    field: &'a Field,
+    block: &mut Block<'a>,
     named: &mut Vec<Named>,
     rising: &mut Rising,
     tally: &mut Tally,
@@ -69,7 +103,7 @@ fn read_line(
     match key {
         "rising" => rising.push_value(alloc, text),
         "rising keys" => rising.push_key(alloc, named.as_slice(), text),
-        _ => judge_row(alloc, key, text, named.as_slice(), tally),
+        _ => read_part(alloc, key, text, block, named.as_slice(), tally),
     }
 }
 
@@ -83,28 +117,18 @@ fn push_event(
     Ok(())
 }
 
-/// Compares what comes of a row of one line with what it wants.
-fn judge_row(
+/// Reads a line of gaps and fillings, or judges a row of one line.
+fn read_part<'a>(
     alloc: Global,
-    kind: &str,
-    text: &str,
+    key: &str,
+    text: &'a str,
+    block: &mut Block<'a>,
     named: &[Named],
     tally: &mut Tally,
 ) -> Result<(), RowFault> {
+    if block.read_part(key, text)? {
+        return Ok(());
+    }
     let (asked, wanted) = split_row(text)?;
-    let came = answer(alloc, kind, asked, named)?;
-    judge_answer(alloc, kind, asked, wanted, came.as_slice(), tally)
-}
-
-fn judge_answer(
-    alloc: Global,
-    kind: &str,
-    asked: &str,
-    wanted: &str,
-    came: &[u8],
-    tally: &mut Tally,
-) -> Result<(), RowFault> {
-    let wanted = read_spelled(alloc, wanted)?;
-    tally.judge(kind, asked, wanted.as_slice(), came)?;
-    Ok(())
+    judge_spelled(alloc, key, asked, wanted, named, tally)
 }

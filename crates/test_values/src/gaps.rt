@@ -87,7 +87,14 @@ fn judge_config(
         "{}{}{text}{}{}",
         around.before, gap.before, gap.after, around.after
     )?;
-    judge_row(alloc, "config", asked.as_str(), wanted.as_bytes(), tally)
+    judge_row(
+        alloc,
+        "config",
+        asked.as_str(),
+        wanted.as_bytes(),
+        &[],
+        tally,
+    )
 }
 
 /// Whether the canonical text has the heading, and the canonical part in the gap.
@@ -100,5 +107,12 @@ fn judge_part(
 ) -> Result<(), RowFault> {
     let asked = format!(in alloc; "{}{text}{}@<0a>", gap.before, gap.after)?;
     let wanted = format!(in alloc; "{heading}@<0a>{}{canonical}{}@<0a>", gap.before, gap.after)?;
-    judge_spelled(alloc, "written", asked.as_str(), wanted.as_str(), tally)
+    judge_spelled(
+        alloc,
+        "written",
+        asked.as_str(),
+        wanted.as_str(),
+        &[],
+        tally,
+    )
 }
