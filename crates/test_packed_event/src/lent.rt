@@ -1,6 +1,6 @@
 use crate::packed::{FULL, LAST, is_packed_as, is_text};
 use ev_types::Event;
-use packed_event::{PackFault, PackedRef};
+use packed_event::PackedRef;
 use std::alloc::Global;
 
 /// Whether the parts are those of [`FULL`].
@@ -9,7 +9,7 @@ fn are_of_full(event: &PackedRef<'_>) -> bool {
         && is_text(event.host(), "a")
         && is_text(event.service(), "bb")
         && event.time() == 1
-        && event.ttl() == Some(60)
+        && matches!(event.ttl(), Some(60))
         && !event.ends_key()
 }
 
@@ -47,29 +47,16 @@ fn parts_are_lent_from_the_bytes(rt: HostRuntime) {
 }
 
 /// Whether the event that these bytes are unpacked into is packed as they are.
-fn is_unpacked(alloc: Global, event: &mut Event, bytes: &[u8]) -> Result<bool, PackFault> {
-    let Some(packed) = PackedRef::of(bytes) else {
-        return Ok(false);
-    };
-    packed.unpack_into(alloc, event)?;
-    is_packed_as(alloc, event, bytes, None)
+fn is_unpacked(alloc: Global, event: &mut Event, bytes: &[u8]) -> bool {
+    match PackedRef::of(bytes) {
+        Some(packed) => {
+            packed.unpack_into(alloc, event).is_ok() && is_packed_as(alloc, event, bytes, None)
+        }
+        None => false,
+    }
 }
 
 /// Whether the bytes of two events are unpacked into this one.
-fn are_unpacked(alloc: Global, event: &mut Event) -> Result<bool, PackFault> {
-    let full = is_unpacked(alloc, event, FULL)?;
-    let last = is_unpacked(alloc, event, LAST)?;
-    Ok(full && last)
-}
-
-/// Whether the bytes of two events are unpacked into a third one.
-fn is_used_again(alloc: Global) -> Result<bool, PackFault> {
-    let mut event = Event::at(alloc, 5);
-    are_unpacked(alloc, &mut event)
-}
-
-#[test]
-fn an_event_is_used_again(rt: HostRuntime) {
-    let unpacked = is_used_again(rt.alloc());
-    assert!(rt; matches!(unpacked, Ok(true)));
+pub(crate) fn are_unpacked(alloc: Global, event: &mut Event) -> bool {
+    is_unpacked(alloc, event, FULL) && is_unpacked(alloc, event, LAST)
 }

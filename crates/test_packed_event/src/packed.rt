@@ -1,4 +1,8 @@
-use ev_types::{Blob, Event, Memory};
+use crate::fields::{are_absent, is_full, lacks_text};
+use crate::keys::{are_ordered, is_keyed};
+use crate::lent::are_unpacked;
+use crate::rules::{QUERIES, answered};
+use ev_types::{Blob, Event, Field, Memory};
 use packed_event::{PackFault, PackedEvent, PackedRef};
 use std::alloc::Global;
 
@@ -11,7 +15,7 @@ pub(crate) const FULL: &[u8] =
 pub(crate) const LAST: &[u8] = b"\x08\x80\x01\x12\x07expired\x1a\x01s";
 
 /// The event of these bytes, if they are as this server writes them. If not, it answers out of memory too.
-pub(crate) fn packed(alloc: Global, bytes: &[u8]) -> Result<PackedEvent, Memory> {
+fn packed(alloc: Global, bytes: &[u8]) -> Result<PackedEvent, Memory> {
     match PackedRef::of(bytes) {
         Some(event) => PackedEvent::copy_of(alloc, &event),
         None => Err(Memory),
@@ -31,7 +35,7 @@ fn are_of_full(event: &PackedEvent) -> bool {
     is_text(event.host(), "a")
         && is_text(event.service(), "bb")
         && event.time() == 1
-        && event.ttl() == Some(60)
+        && matches!(event.ttl(), Some(60))
         && !event.ends_key()
 }
 
@@ -40,27 +44,9 @@ fn expires_after(event: &PackedEvent) -> bool {
     !event.is_expired(61) && event.is_expired(62)
 }
 
-/// Whether the parts are absent that [`LAST`] does not have.
-fn are_absent(event: &PackedEvent) -> bool {
+/// Whether the parts are those of [`LAST`].
+fn are_of_last(event: &PackedEvent) -> bool {
     event.host().is_none() && event.ttl().is_none() && event.ends_key()
-}
-
-/// Whether the parts of two events are those of [`FULL`] and of [`LAST`].
-fn are_of_both(full: &PackedEvent, last: &PackedEvent) -> bool {
-    are_of_full(full) && expires_after(full) && are_absent(last) && !last.is_same(full)
-}
-
-/// Whether the parts are read so from the bytes.
-fn are_read(alloc: Global) -> Result<bool, Memory> {
-    let full = packed(alloc, FULL)?;
-    let last = packed(alloc, LAST)?;
-    Ok(are_of_both(&full, &last))
-}
-
-#[test]
-fn parts_are_those_of_the_bytes(rt: HostRuntime) {
-    let read = are_read(rt.alloc());
-    assert!(rt; matches!(read, Ok(true)));
 }
 
 /// Whether the event is packed as these bytes, and is then the same as the other one, if there is one.
@@ -69,9 +55,11 @@ pub(crate) fn is_packed_as(
     event: &Event,
     bytes: &[u8],
     other: Option<&PackedEvent>,
-) -> Result<bool, PackFault> {
-    let packed = PackedEvent::pack(alloc, event)?;
-    Ok(is_same(&packed, bytes, other))
+) -> bool {
+    match PackedEvent::pack(alloc, event) {
+        Ok(packed) => is_same(&packed, bytes, other),
+        Err(_) => false,
+    }
 }
 
 /// Whether the event has these bytes, and is the same as the other one, if there is one.
@@ -81,24 +69,6 @@ fn is_same(event: &PackedEvent, bytes: &[u8], other: Option<&PackedEvent>) -> bo
         None => true,
     };
     same && event.bytes() == bytes
-}
-
-/// Whether the event, which has these bytes, is unpacked, and packed as it was.
-fn is_repacked(alloc: Global, packed: &PackedEvent, bytes: &[u8]) -> Result<bool, PackFault> {
-    let event = packed.unpack(alloc)?;
-    is_packed_as(alloc, &event, bytes, Some(packed))
-}
-
-/// Whether the event of [`FULL`] is packed as it is written.
-fn is_full_packed(alloc: Global) -> Result<bool, PackFault> {
-    let full = packed(alloc, FULL)?;
-    is_repacked(alloc, &full, FULL)
-}
-
-#[test]
-fn an_event_is_packed_as_it_is_written(rt: HostRuntime) {
-    let packed = is_full_packed(rt.alloc());
-    assert!(rt; matches!(packed, Ok(true)));
 }
 
 /// Whether the reply with the event of [`FULL`] begins as that is written, and is as long as it is counted.
@@ -112,40 +82,39 @@ fn is_replied(alloc: Global, event: &PackedEvent) -> bool {
         && reply.as_slice().starts_with(b"\x32\x3b\x08\x01")
 }
 
-/// Whether the event of [`FULL`] is replied as it is written.
-fn is_full_replied(alloc: Global) -> Result<bool, Memory> {
-    let full = packed(alloc, FULL)?;
-    Ok(is_replied(alloc, &full))
+#[test]
+fn an_event_is_its_bytes(rt: HostRuntime) -> Result<(), Memory> {
+    let full = packed(rt.alloc(), FULL)?;
+    let last = packed(rt.alloc(), LAST)?;
+    assert!(rt; are_of_full(&full), "parts of FULL");
+    assert!(rt; expires_after(&full), "second of expiry");
+    assert!(rt; are_of_last(&last), "parts of LAST");
+    assert!(rt; !last.is_same(&full), "two events");
+    assert!(rt; are_absent(&last), "fields that are absent");
+    assert!(rt; are_ordered(&full, &last), "order of the keys");
+    assert!(rt; is_replied(rt.alloc(), &full), "reply");
+    let answered = answered(rt.alloc(), &full, &last);
+    assert!(rt; answered == QUERIES.len(), "query {answered}");
+    Ok(())
 }
 
 #[test]
-fn an_event_is_replied_as_it_is_written(rt: HostRuntime) {
-    let replied = is_full_replied(rt.alloc());
-    assert!(rt; matches!(replied, Ok(true)));
+fn an_event_is_unpacked_and_packed_as_it_was(rt: HostRuntime) -> Result<(), Memory> {
+    let full = packed(rt.alloc(), FULL)?;
+    let event = full.unpack(rt.alloc())?;
+    assert!(rt; is_full(rt.alloc(), &full), "fields of the bytes");
+    assert!(rt; is_full(rt.alloc(), &event), "fields of the unpacked event");
+    assert!(rt; is_keyed(&full, &event), "key");
+    assert!(rt;
+        is_packed_as(rt.alloc(), &event, FULL, Some(&full)),
+        "bytes"
+    );
+    Ok(())
 }
 
 /// Whether the other event, which holds nothing but second 1 as its time, is packed in the block of this one.
-fn is_packed_in(alloc: Global, event: &mut PackedEvent, bare: &Event) -> Result<bool, PackFault> {
-    event.pack_again(alloc, bare)?;
-    Ok(event.bytes() == b"\x08\x01".as_slice())
-}
-
-/// Whether an event that holds nothing but its time is packed in the block of this one.
-fn is_packed_over(alloc: Global, event: &mut PackedEvent) -> Result<bool, PackFault> {
-    let bare = Event::at(alloc, 1);
-    is_packed_in(alloc, event, &bare)
-}
-
-/// Whether that is so for the block of the event of [`FULL`].
-fn is_packed_over_full(alloc: Global) -> Result<bool, PackFault> {
-    let mut event = packed(alloc, FULL)?;
-    is_packed_over(alloc, &mut event)
-}
-
-#[test]
-fn another_event_is_packed_in_the_block_of_one(rt: HostRuntime) {
-    let packed = is_packed_over_full(rt.alloc());
-    assert!(rt; matches!(packed, Ok(true)));
+fn is_packed_in(alloc: Global, event: &mut PackedEvent, bare: &Event) -> bool {
+    event.pack_again(alloc, bare).is_ok() && event.bytes() == b"\x08\x01".as_slice()
 }
 
 /// The bytes of events that are copied into one after another, each with its service.
@@ -157,47 +126,26 @@ fn is_copy(event: &PackedEvent, bytes: &[u8], service: &str) -> bool {
 }
 
 /// Whether the event is then that of these bytes, and has this service.
-fn is_copied(event: &mut PackedEvent, bytes: &[u8], service: &str) -> Result<bool, Memory> {
-    let Some(other) = PackedRef::of(bytes) else {
-        return Ok(false);
-    };
-    event.become_copy(&other)?;
-    Ok(is_copy(event, bytes, service))
+fn is_copied(event: &mut PackedEvent, bytes: &[u8], service: &str) -> bool {
+    match PackedRef::of(bytes) {
+        Some(other) => event.become_copy(&other).is_ok() && is_copy(event, bytes, service),
+        None => false,
+    }
 }
 
 /// Whether the event is that of each of the rows in turn.
-fn are_copied(event: &mut PackedEvent) -> Result<bool, Memory> {
+fn are_copied(event: &mut PackedEvent) -> bool {
     for (bytes, service) in COPIES {
-        if !is_copied(event, bytes, service)? {
-            return Ok(false);
+        if !is_copied(event, bytes, service) {
+            return false;
         }
     }
-    Ok(true)
-}
-
-/// Whether that is so for the event of [`FULL`].
-fn is_full_copied(alloc: Global) -> Result<bool, Memory> {
-    let mut event = packed(alloc, FULL)?;
-    are_copied(&mut event)
-}
-
-#[test]
-fn a_block_is_used_again(rt: HostRuntime) {
-    let copied = is_full_copied(rt.alloc());
-    assert!(rt; matches!(copied, Ok(true)));
+    true
 }
 
 /// Whether no bytes represent the event.
 fn is_unspellable(alloc: Global, event: &Event) -> bool {
     matches!(PackedEvent::pack(alloc, event), Err(PackFault::Unspellable))
-}
-
-/// Whether no bytes represent an event at second 1 with these microseconds and this ttl.
-fn is_refused(alloc: Global, time_micros: Option<i64>, ttl: Option<u32>) -> bool {
-    let mut event = Event::at(alloc, 1);
-    event.time_micros = time_micros;
-    event.ttl = ttl;
-    is_unspellable(alloc, &event)
 }
 
 /// The microseconds and the ttl of an event at second 1, each with whether no bytes represent it.
@@ -208,18 +156,38 @@ const REFUSED: &[(Option<i64>, Option<u32>, bool)] = &[
     (None, Some(2_147_483_648), true),
 ];
 
-/// Whether each row says what is refused.
-fn are_refused(alloc: Global) -> bool {
+/// Whether each row says what is refused of the event, which is at second 1, with these microseconds and this ttl.
+fn are_refused(alloc: Global, event: &mut Event) -> bool {
     for (time_micros, ttl, refused) in REFUSED {
-        if is_refused(alloc, *time_micros, *ttl) != *refused {
+        event.time_micros = *time_micros;
+        event.ttl = *ttl;
+        if is_unspellable(alloc, event) != *refused {
             return false;
         }
     }
     true
 }
 
+/// After the copies the packed event is that of [`FULL`] again.
 #[test]
-fn an_event_that_no_bytes_represent_is_refused(rt: HostRuntime) {
-    let refused = are_refused(rt.alloc());
-    assert!(rt; refused);
+fn the_blocks_of_events_are_used_again(rt: HostRuntime) -> Result<(), Memory> {
+    let mut full = packed(rt.alloc(), FULL)?;
+    assert!(rt; are_copied(&mut full), "copies");
+    let mut event = Event::at(rt.alloc(), 0);
+    assert!(rt; lacks_text(&event, &Field::State), "no state");
+    event.time = 1;
+    assert!(rt;
+        is_packed_in(rt.alloc(), &mut full, &event),
+        "packed in the block of another"
+    );
+    assert!(rt;
+        are_refused(rt.alloc(), &mut event),
+        "events that no bytes represent"
+    );
+    event.time = 5;
+    assert!(rt;
+        are_unpacked(rt.alloc(), &mut event),
+        "unpacked in the block of another"
+    );
+    Ok(())
 }

@@ -177,13 +177,6 @@ fn are_replied(alloc: Global, index: &mut PackedIndex) -> bool {
     true
 }
 
-#[test]
-fn events_are_replied_as_they_were_written(rt: HostRuntime) {
-    let mut index = PackedIndex::fresh(rt.alloc());
-    let replied = are_replied(rt.alloc(), &mut index);
-    assert!(rt; replied);
-}
-
 /// A packed event, and one that owns its parts.
 const BOTH: &[(&[u8], bool)] = &[
     (b"\x08\x01\x1a\x01s\x22\x01a", false),
@@ -208,11 +201,19 @@ fn is_reaped(alloc: Global, index: &mut PackedIndex, wanted: usize) -> bool {
     is_reaped && expired.as_slice().len() == wanted
 }
 
+/// Whether both events are written to an index that has none, are copied, and expire.
+fn are_copied_and_expire(alloc: Global, index: &mut PackedIndex) -> bool {
+    are_written(alloc, index)
+        && gives(alloc, index, Wanted::Copies(2))
+        && is_reaped(alloc, index, 2)
+}
+
+/// The last reply of [`ROWS`] has no event, so that the index is empty after them.
 #[test]
-fn packed_events_are_copied_and_expire(rt: HostRuntime) {
+fn events_are_replied_as_they_were_written_and_are_copied_and_expire(rt: HostRuntime) {
     let mut index = PackedIndex::fresh(rt.alloc());
-    let are_written = are_written(rt.alloc(), &mut index);
-    let are_copied = are_written && gives(rt.alloc(), &mut index, Wanted::Copies(2));
-    let are_expired = are_copied && is_reaped(rt.alloc(), &mut index, 2);
-    assert!(rt; are_expired);
+    let replied = are_replied(rt.alloc(), &mut index);
+    assert!(rt; replied);
+    let expired = are_copied_and_expire(rt.alloc(), &mut index);
+    assert!(rt; expired);
 }

@@ -1,12 +1,11 @@
-use crate::packed::{FULL, LAST, packed};
 use ev_types::{Event, Memory};
 use packed_event::PackedEvent;
 use pred_eval::{Pred, RegexPatterns, Rule, pattern_count};
 use query_lang::read_query;
 use std::alloc::Global;
 
-/// Queries, each with whether [`FULL`] meets it and whether [`LAST`] does.
-const QUERIES: &[(&str, bool, bool)] = &[
+/// Queries, each with whether [`FULL`](crate::packed::FULL) meets it and whether [`LAST`](crate::packed::LAST) does.
+pub(crate) const QUERIES: &[(&str, bool, bool)] = &[
     ("true", true, true),
     ("false", false, false),
     ("host = \"a\"", true, false),
@@ -102,24 +101,11 @@ fn is_answered(
 }
 
 /// How many of the queries, from the first one on, are answered as their rows say.
-fn answered(alloc: Global, full: &PackedEvent, last: &PackedEvent) -> usize {
+pub(crate) fn answered(alloc: Global, full: &PackedEvent, last: &PackedEvent) -> usize {
     for (number, row) in QUERIES.iter().enumerate() {
         if !is_answered(alloc, row, full, last) {
             return number;
         }
     }
     QUERIES.len()
-}
-
-/// How many of them are answered so by the events of [`FULL`] and [`LAST`].
-fn answered_by_both(alloc: Global) -> Result<usize, Memory> {
-    let full = packed(alloc, FULL)?;
-    let last = packed(alloc, LAST)?;
-    Ok(answered(alloc, &full, &last))
-}
-
-#[test]
-fn rules_hold_of_packed_events_as_of_others(rt: HostRuntime) {
-    let answered = answered_by_both(rt.alloc()).unwrap_or(0);
-    assert!(rt; answered == QUERIES.len(), "query {answered}");
 }
