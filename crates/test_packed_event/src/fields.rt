@@ -4,20 +4,20 @@ use event_fields::{EventFields, holds_value};
 use packed_event::PackedEvent;
 use std::alloc::Global;
 
-fn has_text<E: EventFields>(event: &E, field: &Field, text: &str) -> bool {
-    is_text(event.text_in(field), text)
+fn has_text<E: EventFields>(event: &E, field: Field, text: &str) -> bool {
+    is_text(event.text_in(&field), text)
 }
 
 /// Whether the event holds the texts that [`FULL`](crate::packed::FULL) does.
 fn has_texts<E: EventFields>(event: &E) -> bool {
-    has_text(event, &Field::Host, "a")
-        && has_text(event, &Field::Service, "bb")
-        && has_text(event, &Field::State, "ok")
-        && has_text(event, &Field::Description, "d")
+    has_text(event, Field::Host, "a")
+        && has_text(event, Field::Service, "bb")
+        && has_text(event, Field::State, "ok")
+        && has_text(event, Field::Description, "d")
 }
 
-fn has_number<E: EventFields>(event: &E, field: &Field, wanted: i64) -> bool {
-    match event.number_in(field) {
+fn has_number<E: EventFields>(event: &E, field: Field, wanted: i64) -> bool {
+    match event.number_in(&field) {
         Some(number) => number == wanted,
         None => false,
     }
@@ -25,15 +25,19 @@ fn has_number<E: EventFields>(event: &E, field: &Field, wanted: i64) -> bool {
 
 /// Whether the event holds the numbers that `FULL` does.
 fn has_numbers<E: EventFields>(event: &E) -> bool {
-    has_number(event, &Field::Time, 1)
-        && has_number(event, &Field::Ttl, 60)
-        && has_number(event, &Field::Metric, -3)
+    has_number(event, Field::Time, 1)
+        && has_number(event, Field::Ttl, 60)
+        && has_number(event, Field::Metric, -3)
+}
+
+/// Whether the metric is this value.
+fn is_metric<E: EventFields>(event: &E, value: Value) -> bool {
+    holds_value(event, &Field::Metric, &value)
 }
 
 /// Whether the metric is the value that it is in `FULL`, and is not absent.
 fn has_metric<E: EventFields>(event: &E) -> bool {
-    holds_value(event, &Field::Metric, &Value::Number(-3))
-        && !holds_value(event, &Field::Metric, &Value::Nil)
+    is_metric(event, Value::Number(-3)) && !is_metric(event, Value::Nil)
 }
 
 /// Whether the event has this text in the field.
@@ -41,7 +45,7 @@ fn holds_text<E: EventFields>(alloc: Global, event: &E, field: &Field, text: &st
     match Text::from_str(alloc, text) {
         Ok(value) => {
             let holds = holds_value(event, field, &Value::Text(value));
-            holds && has_text(event, field, text)
+            holds && is_text(event.text_in(field), text)
         }
         Err(Memory) => false,
     }
