@@ -1,9 +1,13 @@
 ghost use Rattle.std.specs.Prelude.{◌≡◌, ◌+◌, ◌<◌, nat_lt, count_by};
 
+use crate::steps::is_counted;
 use list_laws::{count_where, keep_where};
 use step_count::{CountLedger, Ledger, NoLedger, Steps};
 
 const DIGITS: [u64; 8] = [3, 1, 4, 1, 5, 9, 2, 6];
+
+/// The places of the digits above 3.
+const PLACES: [usize; 4] = [2, 4, 5, 7];
 
 fn count_above(items: &[u64], bound: u64) -> usize
     ensures { result ≡ count_by (λ item. nat_lt bound item) items.now }
@@ -22,15 +26,6 @@ fn is_above(items: &[u64], bound: u64, nth: usize, place: usize) -> bool {
     nth < count_above(items, bound) && place_above(items, bound, nth) == place
 }
 
-#[test]
-fn items_are_counted_and_found_by_number(rt: HostRuntime) {
-    for (nth, place) in [(0, 2), (1, 4), (2, 5), (3, 7)] {
-        assert!(rt; is_above(&DIGITS, 3, nth, place));
-    }
-    assert!(rt; count_above(&DIGITS, 3) == 4);
-    assert!(rt; count_above(&DIGITS, 9) == 0 && count_above(&[], 0) == 0);
-}
-
 fn two_forks_of_one_entry<G: Ledger>(steps: &mut Steps<G>)
     ensures forks { steps.new.forks ≡ steps.old.forks + 2 }
     ensures entries { steps.new.entries ≡ steps.old.entries + 1 }
@@ -40,25 +35,39 @@ fn two_forks_of_one_entry<G: Ledger>(steps: &mut Steps<G>)
     steps.enter_fork();
 }
 
-/// The counts of the ledger after two forks of one entry.
-fn counted(forks: u64, entries: u64) -> (u64, u64) {
-    let mut steps = Steps::fresh(CountLedger { forks, entries });
+/// Whether two forks of one entry are reported to the ledger, which has these counts then.
+fn are_reported(ledger: CountLedger, forks: u64, entries: u64) -> bool {
+    let mut steps = Steps::fresh(ledger);
     two_forks_of_one_entry(&mut steps);
-    let CountLedger { forks, entries } = *steps.ledger();
-    (forks, entries)
+    is_counted(&steps, forks, entries)
 }
 
-#[test]
-fn each_step_is_reported_to_a_ledger_once(rt: HostRuntime) {
-    assert!(rt; counted(5, 0) == (7, 1));
-    // a count stays at its greatest number
-    assert!(rt; counted(u64::MAX - 1, u64::MAX) == (u64::MAX, u64::MAX));
-}
-
-#[test]
-fn steps_without_a_ledger_take_no_bytes(rt: HostRuntime) {
+/// Whether steps without a ledger take no bytes, and those with a ledger of two counts 16.
+fn take_no_bytes() -> bool {
     let mut steps = Steps::fresh(NoLedger);
     two_forks_of_one_entry(&mut steps);
-    assert!(rt; *steps.ledger() == NoLedger);
-    assert!(rt; size_of::<Steps<NoLedger>>() == 0 && size_of::<Steps<CountLedger>>() == 16);
+    *steps.ledger() == NoLedger
+        && size_of::<Steps<NoLedger>>() == 0
+        && size_of::<Steps<CountLedger>>() == 16
+}
+
+#[test]
+fn items_and_steps_are_counted(rt: HostRuntime) {
+    for (nth, place) in PLACES.iter().enumerate() {
+        assert!(rt; is_above(&DIGITS, 3, nth, *place));
+    }
+    assert!(rt; count_above(&DIGITS, 3) == 4);
+    assert!(rt; count_above(&DIGITS, 9) == 0 && count_above(&[], 0) == 0);
+    let few = CountLedger {
+        forks: 5,
+        entries: 0,
+    };
+    assert!(rt; are_reported(few, 7, 1));
+    // a count stays at its greatest number
+    let most = CountLedger {
+        forks: u64::MAX - 1,
+        entries: u64::MAX,
+    };
+    assert!(rt; are_reported(most, u64::MAX, u64::MAX));
+    assert!(rt; take_no_bytes());
 }

@@ -81,19 +81,6 @@ fn are_known_as(alloc: Global, table: &ForkTable<u64>, rows: &[(i64, Option<usiz
     }
 }
 
-/// Sets when the fork of the number is due, if there is such a fork.
-fn set_due(
-    alloc: Global,
-    table: &mut ForkTable<u64>,
-    number: usize,
-    due: u64,
-) -> Result<(), Memory> {
-    if table.contains(number) {
-        table.set_due(alloc, number, Some(due))?;
-    }
-    Ok(())
-}
-
 /// Notes an item of the fork of the number, if there is such a fork.
 fn touch(table: &mut ForkTable<u64>, number: usize, now: u64) {
     if table.contains(number) {
@@ -135,13 +122,16 @@ fn are_given_once(
     asked && ids.as_slice() == forks && table.next_due().is_none()
 }
 
+/// Sets when forks are due, by their numbers, of those that are there.
 fn set_dues(
     alloc: Global,
     table: &mut ForkTable<u64>,
     dues: &[(usize, u64)],
 ) -> Result<(), Memory> {
     for (number, due) in dues {
-        set_due(alloc, table, *number, *due)?;
+        if table.contains(*number) {
+            table.set_due(alloc, *number, Some(*due))?;
+        }
     }
     Ok(())
 }
@@ -191,19 +181,14 @@ fn are_kept(alloc: Global, table: &mut ForkTable<u64>, first: usize, second: usi
 }
 
 /// Whether two forks have numbers of their own, are due once, and are entered by count.
-fn is_kept(alloc: Global, table: &mut ForkTable<u64>) -> bool {
-    let first = added(alloc, table, 8, 10, 0);
-    let second = added(alloc, table, -9, 20, 0);
-    match (first, second) {
-        (Some(first), Some(second)) => are_kept(alloc, table, first, second),
-        _ => false,
+fn is_given_once(alloc: Global, table: &mut ForkTable<u64>) -> bool {
+    let Some(first) = added(alloc, table, 8, 10, 0) else {
+        return false;
+    };
+    match added(alloc, table, -9, 20, 0) {
+        Some(second) => are_kept(alloc, table, first, second),
+        None => false,
     }
-}
-
-#[test]
-fn a_due_fork_is_given_once_and_entered_by_count(rt: HostRuntime) {
-    let mut table: ForkTable<u64> = ForkTable::fresh(rt.alloc());
-    assert!(rt; is_kept(rt.alloc(), &mut table));
 }
 
 /// The numbers of three forks.
@@ -257,12 +242,6 @@ fn ends_in_order(alloc: Global, table: &mut ForkTable<u64>) -> bool {
         && is_second_due_last(alloc, table, forks)
 }
 
-#[test]
-fn a_fork_ends_and_its_number_is_used_again(rt: HostRuntime) {
-    let mut table: ForkTable<u64> = ForkTable::fresh(rt.alloc());
-    assert!(rt; ends_in_order(rt.alloc(), &mut table));
-}
-
 /// Whether three forks are known without their keys, and no other one is.
 fn are_all_known(alloc: Global, table: &ForkTable<u64>, forks: ThreeForks) -> bool {
     let rows = [
@@ -297,8 +276,33 @@ fn are_known(alloc: Global, table: &mut ForkTable<u64>) -> bool {
         && are_known_as(alloc, table, &[(-9, Some(forks.second))])
 }
 
+/// What forks show in a new table.
+enum Shown {
+    /// A due fork is given once, and entered by count.
+    GivenOnce,
+    /// A fork ends, and its number is used again.
+    EndsInOrder,
+    /// A fork is known by an event until it ends.
+    Known,
+}
+
+fn shows(alloc: Global, table: &mut ForkTable<u64>, shown: &Shown) -> bool {
+    match shown {
+        Shown::GivenOnce => is_given_once(alloc, table),
+        Shown::EndsInOrder => ends_in_order(alloc, table),
+        Shown::Known => are_known(alloc, table),
+    }
+}
+
+/// Whether forks show this in a new table.
+fn is_shown(alloc: Global, shown: &Shown) -> bool {
+    let mut table: ForkTable<u64> = ForkTable::fresh(alloc);
+    shows(alloc, &mut table, shown)
+}
+
 #[test]
-fn a_fork_is_known_by_an_event_until_it_ends(rt: HostRuntime) {
-    let mut table: ForkTable<u64> = ForkTable::fresh(rt.alloc());
-    assert!(rt; are_known(rt.alloc(), &mut table));
+fn forks_are_given_when_due_known_by_events_and_end(rt: HostRuntime) {
+    assert!(rt; is_shown(rt.alloc(), &Shown::GivenOnce));
+    assert!(rt; is_shown(rt.alloc(), &Shown::EndsInOrder));
+    assert!(rt; is_shown(rt.alloc(), &Shown::Known));
 }

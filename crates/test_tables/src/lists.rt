@@ -117,11 +117,6 @@ fn lists_agree(alloc: Global) -> bool {
     }
 }
 
-#[test]
-fn lists_agree_with_plain_lists(rt: HostRuntime) {
-    assert!(rt; lists_agree(rt.alloc()));
-}
-
 /// Two lists without ids, with room for two.
 fn two_lists(alloc: Global) -> Result<Lists, Memory>
     ensures { IfOk result (λ all. (all.lists ≡ replicate 2 []) × (2 ≤ all.spare)) }
@@ -132,17 +127,20 @@ fn two_lists(alloc: Global) -> Result<Lists, Memory>
 }
 
 /// Whether the first of two ids is alone in the other list once it is moved, and the second in its own.
-fn is_moved(alloc: Global) -> Result<bool, Memory> {
-    let mut lists = two_lists(alloc)?;
+fn is_moved(alloc: Global) -> bool {
+    let Ok(mut lists) = two_lists(alloc) else {
+        return false;
+    };
     let first = lists.insert(0);
     let second = lists.insert(0);
     lists.move_back(1, first);
     let stayed = lists.front(0) == Some(second) && lists.next(second).is_none();
     let moved = lists.front(1) == Some(first) && lists.next(first).is_none();
-    Ok(stayed && moved)
+    stayed && moved
 }
 
 #[test]
-fn an_id_moves_to_the_end_of_another_list(rt: HostRuntime) {
-    assert!(rt; matches!(is_moved(rt.alloc()), Ok(true)));
+fn ids_are_moved_and_lists_agree_with_plain_lists(rt: HostRuntime) {
+    assert!(rt; is_moved(rt.alloc()));
+    assert!(rt; lists_agree(rt.alloc()));
 }

@@ -7,10 +7,13 @@ use std::process::Abort;
 use step_count::{CountLedger, Steps};
 use tick_schedule::DueQueue;
 
-/// Sets when ids are due: three of them are, and two others were.
+/// Ids, each with a moment at which it is due.
+const DUES: &[(usize, u64)] = &[(3, 10), (1, 10), (2, 11), (5, 4), (5, 12), (6, 1)];
+
+/// Sets when ids are due, and clears one of them and another one that was not due.
 fn set_all(alloc: Global, queue: &mut DueQueue) -> Result<(), Memory> {
-    for (id, due) in [(3, 10), (1, 10), (2, 11), (5, 4), (5, 12), (6, 1)] {
-        queue.set(alloc, id, due)?;
+    for (id, due) in DUES {
+        queue.set(alloc, *id, *due)?;
     }
     queue.clear(6);
     queue.clear(7);
