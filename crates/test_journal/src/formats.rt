@@ -92,12 +92,14 @@ fn records_are_read_and_written(rt: HostRuntime) {
     assert!(rt; written);
 }
 
+/// The head of the journal, after its first byte.
+const HEAD: &[u8; 19] = b"\x00\x00\x00\x0f(streams index)";
+
 /// Whether the head of the journal is written.
 fn is_head_written(alloc: Global) -> bool {
     let mut bytes = Vec::new(alloc);
     let is_pushed = push_head(alloc, &mut bytes, CONFIG).is_ok();
-    let journal = JOURNAL.as_slice();
-    is_pushed && bytes.as_slice() == &journal[1..20]
+    is_pushed && bytes.as_slice() == HEAD.as_slice()
 }
 
 /// How many bytes of the journal there are, and what is found in them.

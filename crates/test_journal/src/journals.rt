@@ -44,29 +44,31 @@ fn is_added<D: Disk>(alloc: Global, file: &mut JournalFile<'_, D>) -> bool {
 }
 
 /// Whether a journal is begun in an empty file, and a record added.
-fn is_begun<D: Disk>(alloc: Global, disk: &mut D) -> Result<bool, JournalFault> {
+fn is_begun<D: Disk>(alloc: Global, disk: &mut D) -> bool {
     let mut room = Vec::new(alloc);
     match JournalFile::begin(alloc, disk, &mut room, CONFIG) {
-        Ok(mut file) => Ok(is_added(alloc, &mut file)),
-        Err(fault) => Err(fault),
+        Ok(mut file) => is_added(alloc, &mut file),
+        Err(_) => false,
     }
+}
+
+/// Whether this is the journal, and its bytes.
+fn is_whole<D: Disk>(file: &JournalFile<'_, D>, bytes: &[u8]) -> bool {
+    bytes == JOURNAL.as_slice() && file.gate == 32 && file.has_record
 }
 
 /// Whether the journal is loaded.
 fn is_loaded<D: Disk>(alloc: Global, disk: &mut D) -> Result<bool, JournalFault> {
     let mut room = Vec::new(alloc);
     match JournalFile::load(alloc, disk, &mut room) {
-        Ok((file, bytes)) => {
-            let same = bytes.as_slice() == JOURNAL.as_slice();
-            Ok(same && file.gate == 32 && file.has_record)
-        }
+        Ok((file, bytes)) => Ok(is_whole(&file, bytes.as_slice())),
         Err(fault) => Err(fault),
     }
 }
 
 /// Whether a journal is begun on the empty disk, added to and loaded.
 fn keeps_journal(alloc: Global, disk: &mut MemDisk) -> bool {
-    let begun = matches!(is_begun(alloc, disk), Ok(true));
+    let begun = is_begun(alloc, disk);
     let written = disk.file.as_slice() == JOURNAL.as_slice();
     let loaded = matches!(is_loaded(alloc, disk), Ok(true));
     begun && written && loaded
@@ -89,7 +91,6 @@ fn is_cut_refused(alloc: Global, disk: &mut MemDisk) -> bool {
 }
 
 /// What a disk shows.
-#[derive(Clone, Copy)]
 enum Shown {
     /// A journal is begun, added to and loaded.
     Kept,
@@ -102,7 +103,7 @@ enum Shown {
 }
 
 /// Whether the disk shows this.
-fn shows(alloc: Global, disk: &mut MemDisk, shown: Shown) -> bool {
+fn shows(alloc: Global, disk: &mut MemDisk, shown: &Shown) -> bool {
     match shown {
         Shown::Kept => keeps_journal(alloc, disk),
         Shown::Taken => is_taken(alloc, disk),
@@ -112,25 +113,28 @@ fn shows(alloc: Global, disk: &mut MemDisk, shown: Shown) -> bool {
 }
 
 /// Whether a disk with these bytes shows this.
-fn is_shown(alloc: Global, bytes: &[u8], shown: Shown) -> bool {
+fn is_shown(alloc: Global, bytes: &[u8], shown: &Shown) -> bool {
     match disk_of(alloc, bytes, None) {
         Ok(mut disk) => shows(alloc, &mut disk, shown),
         Err(Memory) => false,
     }
 }
 
-#[test]
-fn a_journal_is_begun_added_to_and_loaded(rt: HostRuntime) {
-    let kept = is_shown(rt.alloc(), b"", Shown::Kept);
-    assert!(rt; kept);
-}
+/// The first 25 bytes of the journal.
+const CUT: &[u8; 25] = b"\x01\x00\x00\x00\x0f(streams index)\x01\x00\x00\x00\x00";
+
+/// Bytes on a disk, each with what it shows.
+const ROWS: &[(&[u8], Shown)] = &[
+    (b"", Shown::Kept),
+    (JOURNAL, Shown::Taken),
+    (CUT, Shown::CutRefused),
+    (b"", Shown::EmptyRefused),
+];
 
 #[test]
-fn files_are_refused_at_a_place(rt: HostRuntime) {
-    let taken = is_shown(rt.alloc(), JOURNAL, Shown::Taken);
-    assert!(rt; taken);
-    let cut = is_shown(rt.alloc(), &JOURNAL[..25], Shown::CutRefused);
-    assert!(rt; cut);
-    let empty = is_shown(rt.alloc(), b"", Shown::EmptyRefused);
-    assert!(rt; empty);
+fn a_journal_is_kept_and_files_are_refused_at_a_place(rt: HostRuntime) {
+    for (bytes, shown) in ROWS {
+        let is_shown = is_shown(rt.alloc(), bytes, shown);
+        assert!(rt; is_shown);
+    }
 }

@@ -9,7 +9,7 @@ use ports::{
 };
 use recorded_links::{RecordRoom, RecordedLinks};
 use std::alloc::Global;
-use turn_journal::{JournalFault, JournalFile};
+use turn_journal::JournalFile;
 
 /// The journal of a `listen`, of link 0 that opens, and, after a send of three bytes on it, of a read of two, at second
 /// 0.
@@ -58,7 +58,7 @@ pub(crate) fn is_played<L: Links>(alloc: Global, links: &mut L) -> bool {
 
 /// What is asked of links that record.
 #[derive(Clone, Copy)]
-pub(crate) enum Asked {
+enum Asked {
     /// Whether a `listen` and two turns are given and recorded.
     Plays,
     /// Whether the `listen` fails for the disk, and the call after it is out of memory.
@@ -97,10 +97,14 @@ fn record_over<L: Links, D: Disk>(
     disk: &mut D,
     room: &mut RecordRoom,
     asked: Asked,
-) -> Result<bool, JournalFault> {
-    let journal = JournalFile::begin(alloc, disk, &mut room.written, CONFIG)?;
-    let mut links = RecordedLinks::over(inner, journal, None, &mut room.turns);
-    Ok(answers(alloc, &mut links, asked))
+) -> bool {
+    match JournalFile::begin(alloc, disk, &mut room.written, CONFIG) {
+        Ok(journal) => {
+            let mut links = RecordedLinks::over(inner, journal, None, &mut room.turns);
+            answers(alloc, &mut links, asked)
+        }
+        Err(_) => false,
+    }
 }
 
 /// Links on which link 0 opens and reads two bytes.
@@ -109,21 +113,23 @@ pub(crate) fn two_turns(alloc: Global) -> Result<ScriptLinks, Memory> {
 }
 
 /// Whether links that record over two turns on this disk answer what is asked.
-fn record(alloc: Global, disk: &mut MemDisk, asked: Asked) -> Result<bool, JournalFault> {
-    let mut inner = two_turns(alloc)?;
+fn record(alloc: Global, disk: &mut MemDisk, asked: Asked) -> bool {
     let mut room = RecordRoom::fresh(alloc);
-    record_over(alloc, &mut inner, disk, &mut room, asked)
+    match two_turns(alloc) {
+        Ok(mut inner) => record_over(alloc, &mut inner, disk, &mut room, asked),
+        Err(Memory) => false,
+    }
 }
 
 /// Whether the turns are recorded on the empty disk.
 fn is_recorded(alloc: Global, disk: &mut MemDisk) -> bool {
-    let played = matches!(record(alloc, disk, Asked::Plays), Ok(true));
+    let played = record(alloc, disk, Asked::Plays);
     played && disk.file.as_slice() == RECORDED.as_slice()
 }
 
 /// Whether the run ends on a disk that stops after its journal was begun.
 fn is_ended(alloc: Global, disk: &mut MemDisk) -> bool {
-    let stopped = matches!(record(alloc, disk, Asked::Stops), Ok(true));
+    let stopped = record(alloc, disk, Asked::Stops);
     stopped && disk.faults == 1
 }
 

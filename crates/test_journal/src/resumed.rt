@@ -1,6 +1,6 @@
 use crate::disks::disk_of;
 use crate::formats::CONFIG;
-use crate::recorded::{Asked, RECORDED, is_listened, is_next, is_played, two_turns};
+use crate::recorded::{RECORDED, is_listened, is_next, is_played, two_turns};
 use crate::replayed::count_records;
 use disk_port::{Disk, MemDisk};
 use ev_types::Memory;
@@ -21,40 +21,6 @@ fn stops<L: Links, D: Disk>(alloc: Global, links: &mut JournalLinks<'_, L, D>) -
     let disk_failed = links.disk_failed();
     let ended = is_next(alloc, links, What::Memory);
     failed && disk_failed && ended && !links.disk_failed()
-}
-
-/// Whether the links are of the configuration, and answer what is asked.
-fn answers<L: Links, D: Disk>(
-    alloc: Global,
-    links: &mut JournalLinks<'_, L, D>,
-    asked: Asked,
-) -> bool {
-    let answered = match asked {
-        Asked::Plays => plays(alloc, links),
-        Asked::Stops => stops(alloc, links),
-    };
-    answered && links.config().as_slice() == CONFIG.as_slice()
-}
-
-/// Whether links whose journal begins answer what is asked.
-fn record_over<L: Links, D: Disk>(
-    alloc: Global,
-    inner: &mut L,
-    disk: &mut D,
-    room: &mut JournalRoom,
-    asked: Asked,
-) -> Result<bool, JournalFault> {
-    let mut links = JournalLinks::record(alloc, inner, disk, room, CONFIG)?;
-    Ok(answers(alloc, &mut links, asked))
-}
-
-/// What is asked of links that give the turns of a journal again.
-#[derive(Clone, Copy)]
-enum Again {
-    /// Whether all its turns are given, its link 0 is broken, and link 0 of the inner links is link 1.
-    GoesOn,
-    /// Whether the first turn of two is given as one that has a later one.
-    IsReplayed,
 }
 
 /// Whether these turns are given, and then those of other links.
@@ -82,48 +48,64 @@ fn is_replayed<L: Links, D: Disk>(alloc: Global, links: &mut JournalLinks<'_, L,
     listened && !before && opened && links.replayed()
 }
 
-fn answers_again<L: Links, D: Disk>(
-    alloc: Global,
-    links: &mut JournalLinks<'_, L, D>,
-    asked: Again,
-) -> bool {
-    match asked {
-        Again::GoesOn => goes_on(alloc, links),
-        Again::IsReplayed => is_replayed(alloc, links),
-    }
+/// What is asked of links with a journal.
+#[derive(Clone, Copy)]
+enum Asked {
+    /// Whether turns are given and recorded, where the journal begins.
+    Plays,
+    /// Whether the `listen` fails for the disk, where the journal begins.
+    Stops,
+    /// Whether all turns of the journal are given again, its link 0 is broken, and link 0 of the inner links is link 1.
+    GoesOn,
+    /// Whether the first turn of two of the journal is given again as one that has a later one.
+    IsReplayed,
 }
 
-/// Whether links whose journal is on the disk answer what is asked.
-fn resume_over<L: Links, D: Disk>(
+/// Whether the links answer what is asked, and are of the configuration.
+fn answers<L: Links, D: Disk>(
+    alloc: Global,
+    links: &mut JournalLinks<'_, L, D>,
+    asked: Asked,
+) -> bool {
+    let answered = match asked {
+        Asked::Plays => plays(alloc, links),
+        Asked::Stops => stops(alloc, links),
+        Asked::GoesOn => goes_on(alloc, links),
+        Asked::IsReplayed => is_replayed(alloc, links),
+    };
+    answered && links.config().as_slice() == CONFIG.as_slice()
+}
+
+/// Whether links whose journal begins on the disk, or is there, answer what is asked.
+fn ask_over<L: Links, D: Disk>(
     alloc: Global,
     inner: &mut L,
     disk: &mut D,
     room: &mut JournalRoom,
-    asked: Again,
+    asked: Asked,
 ) -> Result<bool, JournalFault> {
-    let mut links = JournalLinks::resume(alloc, inner, disk, room)?;
-    Ok(answers_again(alloc, &mut links, asked))
+    let made = match asked {
+        Asked::Plays | Asked::Stops => JournalLinks::record(alloc, inner, disk, room, CONFIG),
+        Asked::GoesOn | Asked::IsReplayed => JournalLinks::resume(alloc, inner, disk, room),
+    };
+    match made {
+        Ok(mut links) => Ok(answers(alloc, &mut links, asked)),
+        Err(fault) => Err(fault),
+    }
 }
 
-/// Whether links over two turns, whose journal begins on the disk, answer what is asked.
-fn record(alloc: Global, disk: &mut MemDisk, asked: Asked) -> Result<bool, JournalFault> {
+/// Whether links over two turns, with a journal on the disk, answer what is asked.
+fn ask(alloc: Global, disk: &mut MemDisk, asked: Asked) -> Result<bool, JournalFault> {
     let mut inner = two_turns(alloc)?;
     let mut room = JournalRoom::fresh(alloc);
-    record_over(alloc, &mut inner, disk, &mut room, asked)
-}
-
-/// Whether links over two turns, whose journal is on the disk, answer what is asked.
-fn resume(alloc: Global, disk: &mut MemDisk, asked: Again) -> Result<bool, JournalFault> {
-    let mut inner = two_turns(alloc)?;
-    let mut room = JournalRoom::fresh(alloc);
-    resume_over(alloc, &mut inner, disk, &mut room, asked)
+    ask_over(alloc, &mut inner, disk, &mut room, asked)
 }
 
 /// Whether a run is recorded on the empty disk, and goes on with other links.
 fn is_kept(alloc: Global, disk: &mut MemDisk) -> bool {
-    let begun = matches!(record(alloc, disk, Asked::Plays), Ok(true));
+    let begun = matches!(ask(alloc, disk, Asked::Plays), Ok(true));
     let recorded = disk.file.as_slice() == RECORDED.as_slice();
-    let resumed = matches!(resume(alloc, disk, Again::GoesOn), Ok(true));
+    let resumed = matches!(ask(alloc, disk, Asked::GoesOn), Ok(true));
     let records = count_records(alloc, disk.file.as_slice());
     begun && recorded && resumed && matches!(records, Ok(6))
 }
@@ -151,12 +133,10 @@ enum Shown {
 fn shows(alloc: Global, disk: &mut MemDisk, shown: &Shown) -> bool {
     match shown {
         Shown::Kept => is_kept(alloc, disk),
-        Shown::Replayed => matches!(resume(alloc, disk, Again::IsReplayed), Ok(true)),
-        Shown::NotBegun => is_refused(record(alloc, disk, Asked::Plays)),
-        Shown::NotResumed => is_refused(resume(alloc, disk, Again::GoesOn)),
-        Shown::Ended => {
-            matches!(record(alloc, disk, Asked::Stops), Ok(true)) && disk.faults == 1
-        }
+        Shown::Replayed => matches!(ask(alloc, disk, Asked::IsReplayed), Ok(true)),
+        Shown::NotBegun => is_refused(ask(alloc, disk, Asked::Plays)),
+        Shown::NotResumed => is_refused(ask(alloc, disk, Asked::GoesOn)),
+        Shown::Ended => { matches!(ask(alloc, disk, Asked::Stops), Ok(true)) && disk.faults == 1 }
     }
 }
 
