@@ -20,17 +20,17 @@ fn are_two_ids(alloc: Global) -> bool {
     }
 }
 
-/// A copy of a text of one byte.
-fn text(alloc: Global) -> Result<Text, Memory> {
+/// Adds a copy of a text of one byte.
+fn push_copy(alloc: Global, texts: &mut Texts) -> Result<(), Memory> {
     let text = Text::from_str(alloc, "y")?;
-    text.copy(alloc)
+    texts.push(alloc, text.copy(alloc)?)
 }
 
 /// A list of two texts, each a copy.
 fn two_texts(alloc: Global) -> Result<Texts, Memory> {
     let mut texts = Texts::fresh(alloc);
     for _ in 0..2 {
-        texts.push(alloc, text(alloc)?)?;
+        push_copy(alloc, &mut texts)?;
     }
     Ok(Texts::from_vec(texts.into_vec()))
 }

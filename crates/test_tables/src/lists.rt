@@ -19,7 +19,7 @@ impl ThreeLists {
     fn fresh(alloc: Global) -> Result<ThreeLists, Memory> {
         Ok(ThreeLists {
             lists: Lists::fresh(alloc, 3)?,
-            plain: vec![in alloc; Vec::new(alloc), Vec::new(alloc), Vec::new(alloc)]?,
+            plain: three_plain(alloc)?,
         })
     }
 
@@ -61,21 +61,27 @@ impl ThreeLists {
         take_first(&mut self.plain, from) == Some(id)
     }
 
-    /// Does one thing to one list.
-    fn change(&mut self, alloc: Global, random: &mut Random) -> Result<bool, Memory> {
+    /// Does one thing to one list, and says whether the lists agreed.
+    fn change(&mut self, alloc: Global, random: &mut Random) -> bool {
         let list = random.below(3) as usize;
         match random.below(5) {
-            0 | 1 => {
-                self.insert(alloc, list)?;
-                Ok(true)
-            }
+            0 | 1 => self.insert(alloc, list).is_ok(),
             2 | 3 => {
                 let other = random.below(3) as usize;
-                self.move_first(list, other)
+                matches!(self.move_first(list, other), Ok(true))
             }
-            _ => Ok(self.remove_first(list)),
+            _ => self.remove_first(list),
         }
     }
+}
+
+/// Three plain lists without ids.
+fn three_plain(alloc: Global) -> Result<Vec<Vec<usize>>, Memory> {
+    let mut plain = Vec::new(alloc);
+    for _ in 0..3 {
+        plain.push(Vec::new(alloc))?;
+    }
+    Ok(plain)
 }
 
 fn put_last(plain: &mut Vec<Vec<usize>>, list: usize, id: usize) -> Result<(), Memory> {
@@ -94,25 +100,25 @@ fn take_first(plain: &mut Vec<Vec<usize>>, list: usize) -> Option<usize> {
 }
 
 /// Whether 3,000 random changes of the lists agree, and then all that is removed.
-fn agree(alloc: Global, three: &mut ThreeLists) -> Result<bool, Memory> {
+fn agree(alloc: Global, three: &mut ThreeLists) -> bool {
     let mut random = Random { state: 17 };
     for _ in 0..3_000 {
-        if !three.change(alloc, &mut random)? {
-            return Ok(false);
+        if !three.change(alloc, &mut random) {
+            return false;
         }
     }
     for _ in 0..3_000 {
         if !three.remove_first(0) || !three.remove_first(1) || !three.remove_first(2) {
-            return Ok(false);
+            return false;
         }
     }
-    Ok(true)
+    true
 }
 
 /// Whether three lists agree with plain lists.
 fn lists_agree(alloc: Global) -> bool {
     match ThreeLists::fresh(alloc) {
-        Ok(mut three) => matches!(agree(alloc, &mut three), Ok(true)),
+        Ok(mut three) => agree(alloc, &mut three),
         Err(Memory) => false,
     }
 }

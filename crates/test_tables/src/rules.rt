@@ -54,10 +54,15 @@ fn is_copy_joined(alloc: Global, rule: &Rule) -> bool {
     }
 }
 
-/// Whether the query is read as that rule, and a copy of it is the same.
+/// Whether that is so for the rule and a copy of it.
+fn are_joined(alloc: Global, rule: &Rule) -> bool {
+    is_joined(rule) && is_copy_joined(alloc, rule)
+}
+
+/// Whether the query is read as that rule.
 fn is_read(alloc: Global, query: &[u8]) -> bool {
     match read_query(alloc, query) {
-        Ok(rule) => is_joined(&rule) && is_copy_joined(alloc, &rule),
+        Ok(rule) => are_joined(alloc, &rule),
         Err(_) => false,
     }
 }

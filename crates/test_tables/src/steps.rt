@@ -2,7 +2,6 @@
 ghost use Rattle.std.specs.Prelude.{◌<◌};
 
 use linked_slots::StepTable;
-use list_laws::Memory;
 use std::alloc::{AllocGlobal, Global};
 use std::process::Abort;
 use step_count::{CountLedger, NoLedger, Steps};
@@ -41,20 +40,18 @@ pub(crate) fn is_counted(steps: &Steps<CountLedger>, forks: u64, entries: u64) -
 }
 
 /// Whether a value is found by its number, in one visit of an entry.
-fn is_visited(
-    alloc: Global,
-    table: &mut StepTable<u64>,
-    steps: &mut Steps<CountLedger>,
-) -> Result<bool, Memory> {
-    let number = table.add(alloc, 7)?;
+fn is_visited(alloc: Global, table: &mut StepTable<u64>, steps: &mut Steps<CountLedger>) -> bool {
+    let Ok(number) = table.add(alloc, 7) else {
+        return false;
+    };
     let value = *table.visit(number, steps);
-    Ok(value == 7 && is_counted(steps, 0, 1))
+    value == 7 && is_counted(steps, 0, 1)
 }
 
 /// Whether that is so in a new table, with a ledger without counts.
 fn is_visited_once(alloc: Global) -> bool {
     let mut table: StepTable<u64> = StepTable::fresh(alloc);
-    matches!(is_visited(alloc, &mut table, &mut counter()), Ok(true))
+    is_visited(alloc, &mut table, &mut counter())
 }
 
 /// Removes a value at random, or adds one where there is none under the number, and keeps the sum of all.
@@ -63,30 +60,32 @@ fn swap_values(
     table: &mut StepTable<u64>,
     random: &mut Random,
     sum: &mut u64,
-) -> Result<bool, Memory> {
+) -> bool {
     let number = random.below(40) as usize;
     if !table.contains(number) {
         let value = random.below(1_000);
-        let number = table.add(alloc, value)?;
+        let Ok(number) = table.add(alloc, value) else {
+            return false;
+        };
         *sum = sum.wrapping_add(value);
-        return Ok(table.contains(number));
+        return table.contains(number);
     }
     let value = *table.visit(number, &mut Steps::fresh(NoLedger));
     if !table.contains(number) {
-        return Ok(false);
+        return false;
     }
     let removed = table.remove(number);
     *sum = sum.wrapping_sub(value);
-    Ok(removed == value && !table.contains(number))
+    removed == value && !table.contains(number)
 }
 
 /// Whether 3,000 random changes of the table agree with the sum of its values.
-fn agrees(alloc: Global, table: &mut StepTable<u64>) -> Result<bool, Memory> {
+fn agrees(alloc: Global, table: &mut StepTable<u64>) -> bool {
     let mut random = Random { state: 11 };
     let mut sum = 0;
     for _ in 0..3_000 {
-        if !swap_values(alloc, table, &mut random, &mut sum)? {
-            return Ok(false);
+        if !swap_values(alloc, table, &mut random, &mut sum) {
+            return false;
         }
     }
     for number in 0..100 {
@@ -94,13 +93,13 @@ fn agrees(alloc: Global, table: &mut StepTable<u64>) -> Result<bool, Memory> {
             sum = sum.wrapping_sub(table.remove(number));
         }
     }
-    Ok(sum == 0)
+    sum == 0
 }
 
 /// Whether that is so of a new table.
 fn gives_back(alloc: Global) -> bool {
     let mut table: StepTable<u64> = StepTable::fresh(alloc);
-    matches!(agrees(alloc, &mut table), Ok(true))
+    agrees(alloc, &mut table)
 }
 
 #[test]
