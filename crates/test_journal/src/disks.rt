@@ -64,22 +64,14 @@ pub(crate) fn disk_of(alloc: Global, bytes: &[u8], stop: Option<u64>) -> Result<
     )
 }
 
-/// Whether one of the disk's nine calls fails, and none follows it.
-fn fails_once(alloc: Global, disk: &mut MemDisk) -> bool {
-    matches!(is_kept(alloc, disk), Err(DiskError::Failed)) && disk.faults == 1
-}
-
-/// Whether the file is kept by nine calls, of which two write and one syncs.
-fn keeps(alloc: Global, disk: &mut MemDisk) -> bool {
-    matches!(is_kept(alloc, disk), Ok(true)) && disk.calls == 9 && disk.log.len() == 3
-}
-
-/// Whether the disk fails at one of its nine calls where it stops there, and not where it stops later.
+/// Whether the disk fails at one of its nine calls where it stops there, so that none follows. Where it stops later, the
+/// file is kept by nine calls, of which two write and one syncs.
 fn stops(alloc: Global, disk: &mut MemDisk, stop: u64) -> bool {
+    let kept = is_kept(alloc, disk);
     if stop < 9 {
-        fails_once(alloc, disk)
+        matches!(kept, Err(DiskError::Failed)) && disk.faults == 1
     } else {
-        keeps(alloc, disk)
+        matches!(kept, Ok(true)) && disk.calls == 9 && disk.log.len() == 3
     }
 }
 
@@ -125,14 +117,6 @@ fn fails_at_first(alloc: Global) -> bool {
         Ok(mut disk) => opens_file_again(alloc, &mut disk),
         Err(Memory) => false,
     }
-}
-
-#[test]
-fn a_disk_in_memory_keeps_bytes_and_stops_at_a_call(rt: HostRuntime) {
-    let stops = stops_at_each(rt.alloc());
-    assert!(rt; stops);
-    let failed = fails_at_first(rt.alloc());
-    assert!(rt; failed);
 }
 
 /// Whether the path is opened, and its file is kept.
@@ -186,7 +170,11 @@ fn is_refused(rt: &HostRuntime, path: &str) -> bool {
 }
 
 #[test]
-fn a_file_is_made_and_kept(rt: HostRuntime) {
+fn disks_keep_bytes_and_fail_at_a_call(rt: HostRuntime) {
+    let stops = stops_at_each(rt.alloc());
+    assert!(rt; stops);
+    let failed = fails_at_first(rt.alloc());
+    assert!(rt; failed);
     let made = is_own_made(&rt);
     assert!(rt; made);
     let refused = is_refused(&rt, "/tmp/no_such/j");

@@ -84,14 +84,6 @@ fn are_written_again(alloc: Global) -> bool {
     true
 }
 
-#[test]
-fn records_are_read_and_written(rt: HostRuntime) {
-    let again = are_written_again(rt.alloc());
-    assert!(rt; again);
-    let written = is_read_written(rt.alloc());
-    assert!(rt; written);
-}
-
 /// The head of the journal, after its first byte.
 const HEAD: &[u8; 19] = b"\x00\x00\x00\x0f(streams index)";
 
@@ -124,9 +116,13 @@ fn is_found(alloc: Global, count: usize, wanted: &Result<Found, NoJournal>) -> b
 }
 
 #[test]
-fn a_journal_is_found_in_its_bytes(rt: HostRuntime) {
-    let written = is_head_written(rt.alloc());
-    assert!(rt; written);
+fn records_and_heads_are_written_and_a_journal_is_found(rt: HostRuntime) {
+    let again = are_written_again(rt.alloc());
+    assert!(rt; again);
+    let read_written = is_read_written(rt.alloc());
+    assert!(rt; read_written);
+    let head_written = is_head_written(rt.alloc());
+    assert!(rt; head_written);
     for (count, wanted) in GATES {
         let is_found = is_found(rt.alloc(), *count, wanted);
         assert!(rt; is_found, "{count} bytes");

@@ -40,12 +40,17 @@ fn goes_on<L: Links, D: Disk>(alloc: Global, links: &mut JournalLinks<'_, L, D>)
     config && others && !links.replayed() && !links.disk_failed()
 }
 
+/// Whether a `listen` is answered, and no turn was given then.
+fn is_begun<L: Links, D: Disk>(alloc: Global, links: &mut JournalLinks<'_, L, D>) -> bool {
+    let listened = is_listened(alloc, links, ListenAnswer::Ready { secs: 0 });
+    listened && !links.replayed()
+}
+
 /// Whether the first turn of a journal that has a later one is given as such.
 fn is_replayed<L: Links, D: Disk>(alloc: Global, links: &mut JournalLinks<'_, L, D>) -> bool {
-    let listened = is_listened(alloc, links, ListenAnswer::Ready { secs: 0 });
-    let before = links.replayed();
+    let begun = is_begun(alloc, links);
     let opened = is_next(alloc, links, What::Opened { link: 0 });
-    listened && !before && opened && links.replayed()
+    begun && opened && links.replayed()
 }
 
 /// What is asked of links with a journal.
