@@ -26,6 +26,11 @@ fn is_above(items: &[u64], bound: u64, nth: usize, place: usize) -> bool {
     nth < count_above(items, bound) && place_above(items, bound, nth) == place
 }
 
+/// Whether the digits above bounds are counted.
+fn are_counted() -> bool {
+    count_above(&DIGITS, 3) == 4 && count_above(&DIGITS, 9) == 0 && count_above(&[], 0) == 0
+}
+
 fn two_forks_of_one_entry<G: Ledger>(steps: &mut Steps<G>)
     ensures forks { steps.new.forks ≡ steps.old.forks + 2 }
     ensures entries { steps.new.entries ≡ steps.old.entries + 1 }
@@ -56,8 +61,7 @@ fn items_and_steps_are_counted(rt: HostRuntime) {
     for (nth, place) in PLACES.iter().enumerate() {
         assert!(rt; is_above(&DIGITS, 3, nth, *place));
     }
-    assert!(rt; count_above(&DIGITS, 3) == 4);
-    assert!(rt; count_above(&DIGITS, 9) == 0 && count_above(&[], 0) == 0);
+    assert!(rt; are_counted());
     let few = CountLedger {
         forks: 5,
         entries: 0,

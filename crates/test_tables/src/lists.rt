@@ -23,29 +23,31 @@ impl ThreeLists {
         })
     }
 
+    /// Adds an id to a list, and says whether it could.
     #[tactic(auto, using(crate::proofs::ListSizes::length_append_to))]
-    fn insert(&mut self, alloc: Global, list: usize) -> Result<(), Memory> {
+    fn insert(&mut self, alloc: Global, list: usize) -> bool {
         if list >= 3 {
-            return Ok(());
+            return false;
         }
-        self.lists.reserve(alloc, 1)?;
+        let Ok(()) = self.lists.reserve(alloc, 1) else {
+            return false;
+        };
         let id = self.lists.insert(list);
         put_last(&mut self.plain, list, id)
     }
 
     /// Moves the first id of a list to the end of another one, and says whether it is the one that is known.
     #[tactic(auto, using(crate::proofs::ListSizes::length_append_to, crate::proofs::ListSizes::length_without, crate::proofs::ListSizes::first_listed))]
-    fn move_first(&mut self, from: usize, to: usize) -> Result<bool, Memory> {
+    fn move_first(&mut self, from: usize, to: usize) -> bool {
         if from >= 3 || to >= 3 {
-            return Ok(false);
+            return false;
         }
         let Some(id) = self.lists.front(from) else {
-            return Ok(take_first(&mut self.plain, from).is_none());
+            return take_first(&mut self.plain, from).is_none();
         };
         self.lists.move_back(to, id);
         let same = take_first(&mut self.plain, from) == Some(id);
-        put_last(&mut self.plain, to, id)?;
-        Ok(same)
+        put_last(&mut self.plain, to, id) && same
     }
 
     /// Removes the first id of a list, and says whether it is the one that is known.
@@ -65,10 +67,10 @@ impl ThreeLists {
     fn change(&mut self, alloc: Global, random: &mut Random) -> bool {
         let list = random.below(3) as usize;
         match random.below(5) {
-            0 | 1 => self.insert(alloc, list).is_ok(),
+            0 | 1 => self.insert(alloc, list),
             2 | 3 => {
                 let other = random.below(3) as usize;
-                matches!(self.move_first(list, other), Ok(true))
+                self.move_first(list, other)
             }
             _ => self.remove_first(list),
         }
@@ -84,11 +86,12 @@ fn three_plain(alloc: Global) -> Result<Vec<Vec<usize>>, Memory> {
     Ok(plain)
 }
 
-fn put_last(plain: &mut Vec<Vec<usize>>, list: usize, id: usize) -> Result<(), Memory> {
-    if let Some(ids) = plain.get_mut(list) {
-        ids.push(id)?;
+/// Whether the id was added to the list.
+fn put_last(plain: &mut Vec<Vec<usize>>, list: usize, id: usize) -> bool {
+    match plain.get_mut(list) {
+        Some(ids) => ids.push(id).is_ok(),
+        None => false,
     }
-    Ok(())
 }
 
 fn take_first(plain: &mut Vec<Vec<usize>>, list: usize) -> Option<usize> {
