@@ -64,8 +64,8 @@ pub(crate) fn disk_of(alloc: Global, bytes: &[u8], stop: Option<u64>) -> Result<
     )
 }
 
-/// Whether the disk fails at one of its nine calls where it stops there, so that none follows. Where it stops later, the
-/// file is kept by nine calls, of which two write and one syncs.
+/// Whether the disk fails at one of its nine calls where it stops there, so that none follows. Where it stops later,
+/// the file is kept by nine calls, of which two write and one syncs.
 fn stops(alloc: Global, disk: &mut MemDisk, stop: u64) -> bool {
     let kept = is_kept(alloc, disk);
     if stop < 9 {

@@ -9,10 +9,16 @@ use ports::{Links, ListenAnswer, SendAnswer, What};
 use std::alloc::Global;
 use turn_journal::JournalFault;
 
-/// Whether turns are given and recorded, and none is one that the journal had.
-fn plays<L: Links, D: Disk>(alloc: Global, links: &mut JournalLinks<'_, L, D>) -> bool {
+/// Whether turns are given, and those of other links after them if the run goes on. The last turn is recorded, and is
+/// none that the journal had.
+fn plays<L: Links, D: Disk>(
+    alloc: Global,
+    links: &mut JournalLinks<'_, L, D>,
+    goes_on: bool,
+) -> bool {
     let played = is_played(alloc, links);
-    played && !links.replayed() && !links.disk_failed()
+    let others = !goes_on || gives_others(alloc, links);
+    played && others && !links.replayed() && !links.disk_failed()
 }
 
 /// Whether the `listen` fails for the disk, and the call after it is out of memory.
@@ -23,34 +29,21 @@ fn stops<L: Links, D: Disk>(alloc: Global, links: &mut JournalLinks<'_, L, D>) -
     failed && disk_failed && ended && !links.disk_failed()
 }
 
-/// Whether these turns are given, and then those of other links.
+/// Whether the turns of other links are given.
 fn gives_others<L: Links>(alloc: Global, links: &mut L) -> bool {
-    let played = is_played(alloc, links);
     let broken = is_next(alloc, links, What::Broken { link: 0 });
     let opened = is_next(alloc, links, What::Opened { link: 1 });
     let sent = links.send(alloc, 1, b"d") == SendAnswer::Took { count: 1 };
     let next = is_next(alloc, links, What::Read { link: 1, count: 2 });
-    played && broken && opened && sent && next
-}
-
-/// Whether the turns of the journal are given, and then those of other links.
-fn goes_on<L: Links, D: Disk>(alloc: Global, links: &mut JournalLinks<'_, L, D>) -> bool {
-    let config = links.config().as_slice() == CONFIG.as_slice();
-    let others = gives_others(alloc, links);
-    config && others && !links.replayed() && !links.disk_failed()
-}
-
-/// Whether a `listen` is answered, and no turn was given then.
-fn is_begun<L: Links, D: Disk>(alloc: Global, links: &mut JournalLinks<'_, L, D>) -> bool {
-    let listened = is_listened(alloc, links, ListenAnswer::Ready { secs: 0 });
-    listened && !links.replayed()
+    broken && opened && sent && next
 }
 
 /// Whether the first turn of a journal that has a later one is given as such.
 fn is_replayed<L: Links, D: Disk>(alloc: Global, links: &mut JournalLinks<'_, L, D>) -> bool {
-    let begun = is_begun(alloc, links);
+    let listened = is_listened(alloc, links, ListenAnswer::Ready { secs: 0 });
+    let before = links.replayed();
     let opened = is_next(alloc, links, What::Opened { link: 0 });
-    begun && opened && links.replayed()
+    listened && !before && opened && links.replayed()
 }
 
 /// What is asked of links with a journal.
@@ -66,19 +59,20 @@ enum Asked {
     IsReplayed,
 }
 
-/// Whether the links answer what is asked, and are of the configuration.
+/// Whether the links answer what is asked, and are of the configuration before and after that.
 fn answers<L: Links, D: Disk>(
     alloc: Global,
     links: &mut JournalLinks<'_, L, D>,
     asked: Asked,
 ) -> bool {
+    let config = links.config().as_slice() == CONFIG.as_slice();
     let answered = match asked {
-        Asked::Plays => plays(alloc, links),
+        Asked::Plays => plays(alloc, links, false),
         Asked::Stops => stops(alloc, links),
-        Asked::GoesOn => goes_on(alloc, links),
+        Asked::GoesOn => plays(alloc, links, true),
         Asked::IsReplayed => is_replayed(alloc, links),
     };
-    answered && links.config().as_slice() == CONFIG.as_slice()
+    config && answered && links.config().as_slice() == CONFIG.as_slice()
 }
 
 /// Whether links whose journal begins on the disk, or is there, answer what is asked.
