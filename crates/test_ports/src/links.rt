@@ -17,15 +17,35 @@ fn is_next<L: Links>(
 }
 
 /// Whether the next turns are these, each at second 0.
-fn are_next<L: Links>(alloc: Global, links: &mut L, wanted: &[What]) -> Result<bool, Memory> {
-    let mut buf = vec![in alloc; 0; 65_536]?;
-    let wants = Wants::fresh(alloc);
+fn are_next<L: Links>(
+    alloc: Global,
+    links: &mut L,
+    wants: &Wants,
+    buf: &mut [u8],
+    wanted: &[What],
+) -> bool {
     for what in wanted {
-        if !is_next(alloc, links, &wants, buf.as_mut_slice(), *what) {
-            return Ok(false);
+        if !is_next(alloc, links, wants, buf, *what) {
+            return false;
         }
     }
-    Ok(true)
+    true
+}
+
+/// Whether links that wait for nothing have these turns next.
+fn have_turns<L: Links>(alloc: Global, links: &mut L, wanted: &[What]) -> bool {
+    match vec![in alloc; 0; 65_536] {
+        Ok(mut buf) => {
+            are_next(
+                alloc,
+                links,
+                &Wants::fresh(alloc),
+                buf.as_mut_slice(),
+                wanted,
+            )
+        }
+        Err(_) => false,
+    }
 }
 
 /// Links that feed this many bytes.
@@ -37,7 +57,7 @@ fn feeding(alloc: Global, count: usize) -> Result<ScriptLinks, Memory> {
 /// Whether this many bytes are fed in these turns.
 fn is_fed(alloc: Global, count: usize, wanted: &[What]) -> bool {
     match feeding(alloc, count) {
-        Ok(mut links) => matches!(are_next(alloc, &mut links, wanted), Ok(true)),
+        Ok(mut links) => have_turns(alloc, &mut links, wanted),
         Err(Memory) => false,
     }
 }
@@ -81,7 +101,7 @@ const ONE_FAILS: &[What] = &[
 /// Whether the chosen calls fail.
 fn fail(alloc: Global, links: &mut FaultLinks) -> bool {
     let refused = listen_on(alloc, links, "h:1") == ListenAnswer::Failed;
-    refused && matches!(are_next(alloc, links, ONE_FAILS), Ok(true)) && links.faults == 2
+    refused && have_turns(alloc, links, ONE_FAILS) && links.faults == 2
 }
 
 /// Whether two calls of links fail that were chosen by their numbers.

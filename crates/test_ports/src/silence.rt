@@ -189,22 +189,28 @@ fn is_one_given_up<'b, R: Net>(
         && is_given_up_late(clock, alloc, links, address, buf, clients.as_mut_slice())
 }
 
+/// Whether a link is given up in time, of links that listen on the address.
+fn is_given_up_at<'b, R: Net>(
+    clock: &SetClock<'b, R>,
+    alloc: Global,
+    links: &mut MioLinks<'_, SetClock<'b, R>>,
+    address: &str,
+) -> bool {
+    match vec![in alloc; 0; 65_536] {
+        Ok(mut buf) => is_one_given_up(clock, alloc, links, address, buf.as_mut_slice()),
+        Err(_) => false,
+    }
+}
+
 /// Whether a link is given up for its silence after ten minutes, and not a second before.
 fn is_given_up<'b, R: Net>(
     clock: &SetClock<'b, R>,
     alloc: Global,
     links: &mut MioLinks<'_, SetClock<'b, R>>,
-) -> Result<bool, Memory> {
-    let mut buf = vec![in alloc; 0; 65_536]?;
+) -> bool {
     match listen(alloc, links) {
-        Some(address) => Ok(is_one_given_up(
-            clock,
-            alloc,
-            links,
-            address.as_str(),
-            buf.as_mut_slice(),
-        )),
-        None => Ok(false),
+        Some(address) => is_given_up_at(clock, alloc, links, address.as_str()),
+        None => false,
     }
 }
 
@@ -215,7 +221,7 @@ fn the_link_that_was_silent_longest_makes_room(rt: HostRuntime) -> Result<(), Fa
         secs: Cell::new(0),
     };
     let mut links = MioLinks::fresh(&clock, rt.alloc())?;
-    assert!(rt; matches!(is_given_up(&clock, rt.alloc(), &mut links), Ok(true)));
+    assert!(rt; is_given_up(&clock, rt.alloc(), &mut links));
     Ok(())
 }
 

@@ -184,24 +184,54 @@ fn serves<R: Net + Clock>(
     Ok(are_served(alloc, links, &wants, buf.as_mut_slice(), first, second))
 }
 
-/// Whether two clients that are connected to the links are served.
+/// Whether two clients that connect to the address of the links are served.
 fn are_clients_served<R: Net<Stream = TcpStream> + Clock>(
     rt: &R,
     alloc: Global,
     links: &mut MioLinks<'_, R>,
+    address: &str,
 ) -> bool {
-    match connect(rt, alloc, links) {
-        Some((mut first, mut second)) => {
+    match two_clients(rt, address) {
+        Ok((mut first, mut second)) => {
             matches!(serves(alloc, links, &mut first, &mut second), Ok(true))
+        }
+        Err(_) => false,
+    }
+}
+
+/// Whether others that fail to listen on the address, which is in use, and on one without a port, count two faults.
+fn are_two_faults<R: Net + Clock>(rt: &R, alloc: Global, address: &str) -> bool {
+    match MioLinks::fresh(rt, alloc) {
+        Ok(mut others) => {
+            fails_to_listen(alloc, &mut others, address)
+                && fails_to_listen(alloc, &mut others, "127.0.0.1")
+                && others.faults == 2
+        }
+        Err(Memory) => false,
+    }
+}
+
+/// Whether the links listen on a port that no others can listen on, and serve two clients there.
+fn have_a_port<R: Net<Stream = TcpStream> + Clock>(
+    rt: &R,
+    alloc: Global,
+    links: &mut MioLinks<'_, R>,
+) -> bool {
+    match listen(alloc, links) {
+        Some(address) => {
+            are_two_faults(rt, alloc, address.as_str())
+                && are_clients_served(rt, alloc, links, address.as_str())
         }
         None => false,
     }
 }
 
 #[test]
-fn links_over_sockets_are_served(rt: HostRuntime) -> Result<(), Fail> {
+fn links_over_sockets_are_served_on_a_port_that_is_then_in_use(
+    rt: HostRuntime,
+) -> Result<(), Fail> {
     let mut links = MioLinks::fresh(&rt, rt.alloc())?;
-    assert!(rt; are_clients_served(&rt, rt.alloc(), &mut links));
+    assert!(rt; have_a_port(&rt, rt.alloc(), &mut links));
     Ok(())
 }
 
@@ -342,31 +372,5 @@ fn do_clients_share<R: Net<Stream = TcpStream> + Clock>(
 fn no_link_keeps_another_waiting(rt: HostRuntime) -> Result<(), Fail> {
     let mut links = MioLinks::fresh(&rt, rt.alloc())?;
     assert!(rt; do_clients_share(&rt, rt.alloc(), &mut links));
-    Ok(())
-}
-
-/// Whether others fail to listen on the address of the links, and on one without a port.
-fn are_refused<L: Links, M: Links>(alloc: Global, links: &mut L, others: &mut M) -> bool {
-    match listen(alloc, links) {
-        Some(address) => {
-            fails_to_listen(alloc, others, address.as_str())
-                && fails_to_listen(alloc, others, "127.0.0.1")
-        }
-        None => false,
-    }
-}
-
-/// Whether others that fail to listen on the address of the links, and on one without a port, count two faults.
-fn are_two_faults<R: Net + Clock>(rt: &R, alloc: Global, links: &mut MioLinks<'_, R>) -> bool {
-    match MioLinks::fresh(rt, alloc) {
-        Ok(mut others) => are_refused(alloc, links, &mut others) && others.faults == 2,
-        Err(Memory) => false,
-    }
-}
-
-#[test]
-fn a_port_in_use_is_a_fault(rt: HostRuntime) -> Result<(), Fail> {
-    let mut links = MioLinks::fresh(&rt, rt.alloc())?;
-    assert!(rt; are_two_faults(&rt, rt.alloc(), &mut links));
     Ok(())
 }

@@ -34,10 +34,11 @@ fn is_wanted(answer: &ReadAnswer, wanted: Wanted) -> bool {
 }
 
 /// Whether a read answers so.
-fn is_read<S: Store>(alloc: Global, store: &mut S, row: &Row) -> Result<bool, Memory> {
-    let name = Text::from_str(alloc, row.0)?;
-    let answer = store.read(alloc, &name, u64::from(row.1));
-    Ok(is_wanted(&answer, row.2))
+fn is_read<S: Store>(alloc: Global, store: &mut S, row: &Row) -> bool {
+    match Text::from_str(alloc, row.0) {
+        Ok(name) => is_wanted(&store.read(alloc, &name, u64::from(row.1)), row.2),
+        Err(Memory) => false,
+    }
 }
 
 fn file(alloc: Global, name: &str, bytes: &str) -> Result<(Text, Blob), Memory> {
@@ -62,13 +63,13 @@ fn store(alloc: Global, rows: &[(&str, &str)]) -> Result<MemStore, Memory> {
 }
 
 /// Whether the reads of the rows are answered so.
-fn are_held(alloc: Global, store: &mut MemStore, rows: &[Row]) -> Result<bool, Memory> {
+fn are_held(alloc: Global, store: &mut MemStore, rows: &[Row]) -> bool {
     for row in rows {
-        if !is_read(alloc, store, row)? || store.taken != row.3 || store.faults != row.4 {
-            return Ok(false);
+        if !is_read(alloc, store, row) || store.taken != row.3 || store.faults != row.4 {
+            return false;
         }
     }
-    Ok(true)
+    true
 }
 
 /// Whether these names were read, and these reads failed.
@@ -103,7 +104,7 @@ const NAMES_READ: &[(&str, bool)] = &[
 
 /// Whether the store answers by name, limit and number.
 fn is_answered(alloc: Global, store: &mut MemStore) -> bool {
-    matches!(are_held(alloc, store, READS), Ok(true))
+    are_held(alloc, store, READS)
         && store.calls == 5
         && were_read(store.reads.as_slice(), NAMES_READ)
 }
@@ -155,17 +156,13 @@ fn content(alloc: Global) -> Result<Vec<u8>, AllocError> {
 }
 
 /// Whether the reads of the rows are answered so.
-fn are_filed<R: Files>(
-    alloc: Global,
-    store: &mut FileStore<'_, R>,
-    rows: &[Row],
-) -> Result<bool, Memory> {
+fn are_filed<R: Files>(alloc: Global, store: &mut FileStore<'_, R>, rows: &[Row]) -> bool {
     for row in rows {
-        if !is_read(alloc, store, row)? || store.taken != row.3 || store.faults != row.4 {
-            return Ok(false);
+        if !is_read(alloc, store, row) || store.taken != row.3 || store.faults != row.4 {
+            return false;
         }
     }
-    Ok(true)
+    true
 }
 
 /// Whether the file of the path, which has these 200,000 bytes, is read within the limit.
@@ -183,21 +180,21 @@ fn is_limited<R: Files>(
         ("/tmp", 9, Wanted::Failed, 400_001, 2),
         ("a\0b", 9, Wanted::Failed, 400_001, 3),
     ];
-    matches!(are_filed(alloc, store, &rows), Ok(true))
+    are_filed(alloc, store, &rows)
 }
 
 /// Whether these 200,000 bytes, which are written to the path and removed again, are read within the limit.
-fn are_limited<R: Files>(rt: &R, alloc: Global, path: &str, bytes: &[u8]) -> io::Result<bool> {
-    fs::write(rt, path, bytes)?;
+fn are_limited<R: Files>(rt: &R, alloc: Global, path: &str, bytes: &[u8]) -> bool {
+    let written = fs::write(rt, path, bytes).is_ok();
     let limited = is_limited(alloc, &mut FileStore::fresh(rt), path, bytes);
-    fs::remove_file(rt, path)?;
-    Ok(limited)
+    let removed = fs::remove_file(rt, path).is_ok();
+    written && limited && removed
 }
 
 /// Whether a file of this path with 200,000 bytes is read within the limit.
 fn is_file_limited<R: Files>(rt: &R, alloc: Global, path: &str) -> bool {
     match content(alloc) {
-        Ok(bytes) => matches!(are_limited(rt, alloc, path, bytes.as_slice()), Ok(true)),
+        Ok(bytes) => are_limited(rt, alloc, path, bytes.as_slice()),
         Err(_) => false,
     }
 }
