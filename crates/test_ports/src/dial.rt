@@ -122,11 +122,16 @@ fn is_refused<L: Links>(alloc: Global, links: &mut L, address: &str) -> bool {
     }
 }
 
+/// Whether an address that nobody listens on, and one without a port, are two faults.
+fn are_two_faults<R: Net + Clock>(alloc: Global, links: &mut DialLinks<'_, R>) -> bool {
+    let refused = is_refused(alloc, links, "127.0.0.1:24999");
+    let without_port = is_refused(alloc, links, "127.0.0.1");
+    refused && without_port && links.faults == 2
+}
+
 #[test]
 fn an_address_nobody_listens_on_is_a_fault(rt: HostRuntime) -> Result<(), Fail> {
     let mut links = DialLinks::fresh(&rt, rt.alloc())?;
-    let refused = is_refused(rt.alloc(), &mut links, "127.0.0.1:24999");
-    let without_port = is_refused(rt.alloc(), &mut links, "127.0.0.1");
-    assert!(rt; refused && without_port && links.faults == 2);
+    assert!(rt; are_two_faults(rt.alloc(), &mut links));
     Ok(())
 }

@@ -2,7 +2,6 @@ use ev_types::{Blob, Event, Events, Item, Memory, Notice, Text};
 use notice_sink::{NoticeWriter, put_item, write_notice};
 use ports::{CountSink, MemSink};
 use std::alloc::Global;
-use std::test::Fail;
 
 /// Whether a vector without events is written as two brackets.
 fn is_two_brackets(alloc: Global) -> bool {
@@ -62,10 +61,17 @@ fn is_one_put(alloc: Global, notice: &Notice) -> bool {
     write_notice(alloc, notice, &mut counts).is_ok() && counts.puts == 1
 }
 
+/// Whether a notice is one line and one put.
+fn is_written(alloc: Global) -> bool {
+    match notice(alloc) {
+        Ok(notice) => {
+            matches!(is_one_line(alloc, &notice), Ok(true)) && is_one_put(alloc, &notice)
+        }
+        Err(Memory) => false,
+    }
+}
+
 #[test]
-fn a_notice_is_one_line_and_one_put(rt: HostRuntime) -> Result<(), Fail> {
-    let notice = notice(rt.alloc())?;
-    assert!(rt; matches!(is_one_line(rt.alloc(), &notice), Ok(true)));
-    assert!(rt; is_one_put(rt.alloc(), &notice));
-    Ok(())
+fn a_notice_is_one_line_and_one_put(rt: HostRuntime) {
+    assert!(rt; is_written(rt.alloc()));
 }
