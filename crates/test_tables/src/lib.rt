@@ -1,6 +1,5 @@
-//! Tests of calls of the lower crates that no row of `test_texts` or `test_values` makes: tables, lists, generic calls,
-//! replies, and the tree of a rule. Random events of many forks and random writes to an index are rows of
-//! `test_commands`.
+//! Tests of calls of the lower crates that no row of `test_values` makes: tables, lists, generic calls, replies, and the
+//! tree of a rule. Random events of many forks and random writes to an index are rows of `test_commands`.
 #![tactic(auto)]
 
 #[cfg(test)]
