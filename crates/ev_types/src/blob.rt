@@ -5,9 +5,14 @@ use std::alloc::Global;
 use std::marker::Model;
 
 /// A growing list of bytes, which contracts see as the list of its bytes.
-#[derive(Drop)]
 pub struct Blob {
     bytes: Vec<u8>,
+}
+
+impl Drop for Blob {
+    fn drop(self) {
+        let Blob { bytes: _bytes } = self;
+    }
 }
 
 impl Model for Blob {
@@ -45,7 +50,8 @@ impl Blob {
     pub fn into_vec(self) -> Vec<u8>
         ensures { result.items ≡ self }
     {
-        self.bytes
+        let Blob { bytes } = self;
+        bytes
     }
 
     pub fn as_slice(&self) -> &[u8]

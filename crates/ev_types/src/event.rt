@@ -9,7 +9,6 @@ use std::alloc::Global;
 pub const DEFAULT_TTL: u32 = 60;
 
 /// One observation of a host's service, as Riemann's protocol has it. Each field but the time may be absent.
-#[derive(Drop)]
 pub struct Event {
     pub host: Option<Text>,
     pub service: Option<Text>,
@@ -30,6 +29,12 @@ pub struct Event {
     pub attributes: Attrs,
 }
 
+impl Drop for Event {
+    fn drop(self) {
+        let Event { host: _host, service: _service, state: _state, description: _description, tags: _tags, time: _time, time_micros: _time_micros, ttl: _ttl, metric: _metric, raw_d: _raw_d, raw_f: _raw_f, attributes: _attributes } = self;
+    }
+}
+
 /// A list of events, in the order in which they came.
 pub type Events = Items<Event>;
 
@@ -40,10 +45,15 @@ pub type Tags = Items<Text>;
 pub type Attrs = Items<Attr>;
 
 /// A field of an event that the protocol does not name.
-#[derive(Drop)]
 pub struct Attr {
     pub key: Text,
     pub value: Option<Text>,
+}
+
+impl Drop for Attr {
+    fn drop(self) {
+        let Attr { key: _key, value: _value } = self;
+    }
 }
 
 impl Event {

@@ -7,7 +7,7 @@ use crate::{Attr, Event, Items, Memory, Text, Value};
 use std::alloc::Global;
 
 /// A field of an event, by its name.
-#[derive(Debug, PartialEq, Eq, Drop)]
+#[derive(Debug, PartialEq, Eq)]
 pub enum Field {
     Host,
     Service,
@@ -18,6 +18,21 @@ pub enum Field {
     Metric,
     /// The attributes with this key, of which the last one counts.
     Attribute(Text),
+}
+
+impl Drop for Field {
+    fn drop(self) {
+        match self {
+            Field::Host => {}
+            Field::Service => {}
+            Field::State => {}
+            Field::Description => {}
+            Field::Time => {}
+            Field::Ttl => {}
+            Field::Metric => {}
+            Field::Attribute(_a) => {}
+        }
+    }
 }
 
 /// A list of fields, in the order in which they were named.

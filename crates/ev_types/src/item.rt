@@ -4,10 +4,18 @@ use crate::{Event, Events, Items, Memory, Text};
 use std::alloc::Global;
 
 /// What a stream takes and gives: an event, or a vector of events.
-#[derive(Drop)]
 pub enum Item {
     One(Event),
     Many(Events),
+}
+
+impl Drop for Item {
+    fn drop(self) {
+        match self {
+            Item::One(_a) => {}
+            Item::Many(_a) => {}
+        }
+    }
 }
 
 /// An item that a stream hands to one of its branches.
@@ -22,12 +30,17 @@ pub struct Emission {
 pub type Emissions = Items<Emission>;
 
 /// An item that a stream gave out under a name.
-#[derive(Drop)]
 pub struct Notice {
     pub name: Text,
     /// When it was given, in seconds since 1970.
     pub moment: u64,
     pub item: Item,
+}
+
+impl Drop for Notice {
+    fn drop(self) {
+        let Notice { name: _name, moment: _moment, item: _item } = self;
+    }
 }
 
 /// A list of notices, in the order in which they were given.

@@ -19,9 +19,14 @@ use std::marker::Model;
 
 /// A list of values by which events are told apart. Keys are ordered part by part, and a key comes before a longer one
 /// that begins with it.
-#[derive(Drop)]
 pub struct Key {
     parts: Vec<Value>,
+}
+
+impl Drop for Key {
+    fn drop(self) {
+        let Key { parts: _parts } = self;
+    }
 }
 
 impl Model for Key {
@@ -59,7 +64,8 @@ impl Key {
     pub fn into_vec(self) -> Vec<Value>
         ensures { result.items ≡ self }
     {
-        self.parts
+        let Key { parts } = self;
+        parts
     }
 
     pub fn as_slice(&self) -> &[Value]

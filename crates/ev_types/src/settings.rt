@@ -1,11 +1,20 @@
 use crate::{Field, Items, Value};
 
 /// What an event that has expired keeps.
-#[derive(Debug, Drop)]
+#[derive(Debug)]
 pub enum KeepKey {
     Field(Field),
     /// All its tags.
     Tags,
+}
+
+impl Drop for KeepKey {
+    fn drop(self) {
+        match self {
+            KeepKey::Field(_a) => {}
+            KeepKey::Tags => {}
+        }
+    }
 }
 
 /// A list of what is kept, in the order in which it was named.
@@ -21,10 +30,16 @@ pub struct Expiry {
 }
 
 /// A value that a field is set to.
-#[derive(Debug, Drop)]
+#[derive(Debug)]
 pub struct Set {
     pub field: Field,
     pub value: Value,
+}
+
+impl Drop for Set {
+    fn drop(self) {
+        let Set { field: _field, value: _value } = self;
+    }
 }
 
 /// A list of sets, in the order in which they are made.

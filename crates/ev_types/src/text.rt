@@ -24,18 +24,31 @@ use thiserror::Error;
 const SHORT: usize = 24;
 
 /// A text, which contracts see as its bytes. They are UTF-8. Texts are ordered by their bytes.
-#[derive(Drop)]
 pub struct Text {
     chars: Chars,
 }
 
+impl Drop for Text {
+    fn drop(self) {
+        let Text { chars: _chars } = self;
+    }
+}
+
 /// Where the characters of a text are.
-#[derive(Drop)]
 enum Chars {
     /// In the text itself.
     Inline(ArrayString<SHORT>),
     /// In memory of their own.
     Heap(String),
+}
+
+impl Drop for Chars {
+    fn drop(self) {
+        match self {
+            Chars::Inline(_a) => {}
+            Chars::Heap(_a) => {}
+        }
+    }
 }
 
 /// A list of texts.

@@ -15,12 +15,22 @@ use std::cmp::Ordering;
 use std::hash::{Hash, Hasher};
 
 /// What a field of an event holds. Values are ordered: nil, then numbers, then texts by their bytes.
-#[derive(Debug, Drop)]
+#[derive(Debug)]
 pub enum Value {
     /// The field is absent.
     Nil,
     Number(i64),
     Text(Text),
+}
+
+impl Drop for Value {
+    fn drop(self) {
+        match self {
+            Value::Nil => {}
+            Value::Number(_a) => {}
+            Value::Text(_a) => {}
+        }
+    }
 }
 
 /// A value that is lent.

@@ -25,7 +25,6 @@ pub struct ChangedParams {
 }
 
 /// What a `changed` stream keeps. It passes on each event whose field differs from that of the event before.
-#[derive(Drop)]
 pub struct ChangedState {
     field: Field,
     // What the first event's field is compared with. Only proofs see it, and it has no bytes.
@@ -33,6 +32,12 @@ pub struct ChangedState {
     // What the next event's field is compared with: what the last event's field held, or `init` if none has come.
     last: Option<Value>,
     poisoned: bool,
+}
+
+impl Drop for ChangedState {
+    fn drop(self) {
+        let ChangedState { field: _field, init: _init, last: _last, poisoned: _poisoned } = self;
+    }
 }
 
 impl ChangedState {

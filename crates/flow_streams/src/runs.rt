@@ -23,7 +23,6 @@ pub struct RunsParams {
 }
 
 /// What a `runs` stream keeps. It passes on each event that is the last of `count` whose fields are equal.
-#[derive(Drop)]
 pub struct RunsState {
     params: RunsParams,
     // What the field held in the last event.
@@ -31,6 +30,12 @@ pub struct RunsState {
     // How many of the last events hold it, at most `count`.
     length: u32,
     poisoned: bool,
+}
+
+impl Drop for RunsState {
+    fn drop(self) {
+        let RunsState { params: _params, last: _last, length: _length, poisoned: _poisoned } = self;
+    }
 }
 
 impl RunsState {

@@ -15,9 +15,14 @@ use step_count::{Ledger, Steps};
 
 /// The labels of the forks of a table, in the order in which these were added. What keeps them is in a box that is made
 /// with the first fork, since most streams have no forks.
-#[derive(Drop)]
 pub(crate) struct Labels {
     register: Option<Box<Register>>,
+}
+
+impl Drop for Labels {
+    fn drop(self) {
+        let Labels { register: _register } = self;
+    }
 }
 
 impl Model for Labels {

@@ -29,7 +29,6 @@ use step_count::{Ledger, Steps};
 use tick_schedule::DueQueue;
 
 /// The labels of forks, in the order in which these were added.
-#[derive(Drop)]
 pub(crate) struct Register {
     // The number of each key.
     numbers: IndexMap<Key, usize>,
@@ -43,6 +42,12 @@ pub(crate) struct Register {
     hints: Hints,
     // A log is a list that only proofs see, and has no bytes.
     changes: Log<Change, ()>,
+}
+
+impl Drop for Register {
+    fn drop(self) {
+        let Register { numbers: _numbers, slots: _slots, moments: _moments, due: _due, next: _next, hints: _hints, changes: _changes } = self;
+    }
 }
 
 impl Model for Register {

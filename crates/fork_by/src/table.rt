@@ -16,11 +16,16 @@ use step_count::{Ledger, Steps};
 /// Forks by key, in the order in which they were added, of which those are dropped whose last item is old. A fork has a
 /// number, by which it is entered, the moment of its last item in seconds since 1970, and a due moment or none. The
 /// number of a fork that was dropped may be given to another one.
-#[derive(Drop)]
 pub struct ForkTable<F> {
     labels: Labels,
     // A label says where its fork is.
     forks: Vec<F>,
+}
+
+impl<F: Drop> Drop for ForkTable<F> {
+    fn drop(self) {
+        let ForkTable { labels: _labels, forks: _forks } = self;
+    }
 }
 
 impl<F: Drop> ForkTable<F> {

@@ -25,13 +25,18 @@ use std::alloc::Global;
 use step_count::{Ledger, Steps};
 
 /// One link of a server: the bytes that came on it and are not a whole frame yet, and the replies that were not sent.
-#[derive(Drop)]
 pub struct HubLink {
     number: u64,
     stage: Stage,
     blocked: bool,
     input: FrameBuffer,
     unsent: Unsent,
+}
+
+impl Drop for HubLink {
+    fn drop(self) {
+        let HubLink { number: _number, stage: _stage, blocked: _blocked, input: _input, unsent: _unsent } = self;
+    }
 }
 
 impl HubLink {

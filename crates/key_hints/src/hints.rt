@@ -10,10 +10,15 @@ const KEYS_A_BUCKET: usize = 2;
 
 /// Numbers of keys, by the hashes of these. A hint may be wrong, so the caller compares the key under that number, and
 /// if it is another one, looks the key up as without hints. They take at most 32 bytes for each key, and 128 at least.
-#[derive(Drop)]
 pub struct Hints {
     // The low bits of a hash are the index of its bucket.
     buckets: Vec<Bucket>,
+}
+
+impl Drop for Hints {
+    fn drop(self) {
+        let Hints { buckets: _buckets } = self;
+    }
 }
 
 /// The last hints that were noted for the hashes of a bucket, the latest one first.

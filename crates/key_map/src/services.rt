@@ -9,10 +9,15 @@ use std::collections::BTreeMap;
 use std::marker::Model;
 
 /// The numbers of a host's services. A service may be absent, and an absent one comes first.
-#[derive(Drop)]
 pub(crate) struct Services {
     absent: Option<usize>,
     present: BTreeMap<Text, usize>,
+}
+
+impl Drop for Services {
+    fn drop(self) {
+        let Services { absent: _absent, present: _present } = self;
+    }
 }
 
 impl Model for Services {

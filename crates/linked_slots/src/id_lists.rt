@@ -11,7 +11,6 @@ use std::marker::Model;
 
 /// Lists of ids, by number from 0. An id is in one list, once. After [`Lists::reserve`] the calls take constant time
 /// and no memory.
-#[derive(Drop)]
 pub struct Lists {
     // Each list is a ring of nodes: its head, and then its ids in order. An id is the slot number of its node.
     nodes: Slab<Node>,
@@ -22,6 +21,12 @@ pub struct Lists {
 
     // A log is a list that only proofs see, and has no bytes.
     changes: Log<Change, ()>,
+}
+
+impl Drop for Lists {
+    fn drop(self) {
+        let Lists { nodes: _nodes, heads: _heads, room: _room, changes: _changes } = self;
+    }
 }
 
 impl Model for Lists {

@@ -10,9 +10,14 @@ use step_count::{Ledger, Steps};
 
 /// Values under numbers that the table picks. The number of a removed value is used again: numbers are below the count
 /// of the values that fit, and more fit only once that many are there.
-#[derive(Drop)]
 pub struct StepTable<T> {
     values: Slab<T>,
+}
+
+impl<T: Drop> Drop for StepTable<T> {
+    fn drop(self) {
+        let StepTable { values: _values } = self;
+    }
 }
 
 impl<T> Model for StepTable<T> {

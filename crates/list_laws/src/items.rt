@@ -13,9 +13,14 @@ const LARGE: usize = 64;
 const KEPT: usize = 16;
 
 /// A growing list, which contracts see as the list of its items.
-#[derive(Drop)]
 pub struct Items<T> {
     items: Vec<T>,
+}
+
+impl<T: Drop> Drop for Items<T> {
+    fn drop(self) {
+        let Items { items: _items } = self;
+    }
 }
 
 /// A list of numbers by which a table knows its entries.
@@ -50,7 +55,8 @@ impl<T: Drop> Items<T> {
     pub fn into_vec(self) -> Vec<T>
         ensures { result.items ≡ self }
     {
-        self.items
+        let Items { items } = self;
+        items
     }
 
     pub fn as_slice(&self) -> &[T]

@@ -21,12 +21,17 @@ use stored_event::{EventForm, MeasuredEvent, Stored};
 /// An index of events, one for each host and service. Contracts see its live events, by host and then by service,
 /// absent before present, and whether a change ran out of memory: then it is poisoned, and each later call
 /// that can answer `Memory` does.
-#[derive(Drop)]
 pub struct EventIndex<P: EventForm> {
     slots: Slots<P>,
     poisoned: bool,
     // How many bytes a reply has with all live events, if that was asked for since the last change.
     all_len: Option<usize>,
+}
+
+impl<P: EventForm> Drop for EventIndex<P> {
+    fn drop(self) {
+        let EventIndex { slots: _slots, poisoned: _poisoned, all_len: _all_len } = self;
+    }
 }
 
 /// An index in which each event owns its parts.

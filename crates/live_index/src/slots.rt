@@ -28,7 +28,6 @@ use stored_event::{EMPTY_REPLY, EventForm, MeasuredEvent, Stored};
 use tick_schedule::DueQueue;
 
 /// The events of an index, by host and by service, absent before present.
-#[derive(Drop)]
 pub(crate) struct Slots<P: EventForm> {
     // The key of an event has its number. The queue has the moments at which events expire, by number.
     numbers: OrderedKeys,
@@ -37,6 +36,12 @@ pub(crate) struct Slots<P: EventForm> {
     count: usize,
     // A write looks here for the number of its key first.
     hints: Hints,
+}
+
+impl<P: EventForm> Drop for Slots<P> {
+    fn drop(self) {
+        let Slots { numbers: _numbers, events: _events, due: _due, count: _count, hints: _hints } = self;
+    }
 }
 
 /// A host and a service that have no event yet, and their hash.

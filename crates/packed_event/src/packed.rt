@@ -19,10 +19,15 @@ use std::marker::Model;
 const EVENTS: u32 = 6;
 
 /// An event, kept as the bytes that this server writes for it, which are less than 4 GiB. Contracts see the event.
-#[derive(Drop)]
 pub struct PackedEvent {
     bytes: Vec<u8>,
     places: Places,
+}
+
+impl Drop for PackedEvent {
+    fn drop(self) {
+        let PackedEvent { bytes: _bytes, places: _places } = self;
+    }
 }
 
 impl Model for PackedEvent {

@@ -19,10 +19,15 @@ const MOST_PAIRS: usize = 16_384;
 
 /// What finds a regular expression, as which contracts see it. The crate `regex` searches with a matcher, which is made
 /// for each search and has 22 KB that are cleared first. So a short text is searched by the states of the expression.
-#[derive(Drop)]
 pub struct Finder {
     regex: Regex,
     states: Option<States>,
+}
+
+impl Drop for Finder {
+    fn drop(self) {
+        let Finder { regex: _regex, states: _states } = self;
+    }
 }
 
 // The states of a regular expression. If `at_start` is set, each match begins where the text does.

@@ -6,7 +6,6 @@ use ev_types::{Field, Memory, Text, Value};
 use std::alloc::Global;
 
 /// A rule about an event, as a query or a `where` stream states it.
-#[derive(Drop)]
 pub enum Rule {
     /// Every event meets it.
     Always,
@@ -40,6 +39,23 @@ pub enum Rule {
         field: Field,
         pattern: Text,
     },
+}
+
+impl Drop for Rule {
+    fn drop(self) {
+        match self {
+            Rule::Always => {}
+            Rule::Never => {}
+            Rule::Not(_a) => {}
+            Rule::All(_a) => {}
+            Rule::Any(_a) => {}
+            Rule::Tagged(_a) => {}
+            Rule::Equal { field: _field, value: _value } => {}
+            Rule::Order { field: _field, order: _order, number: _number } => {}
+            Rule::Wild { field: _field, pattern: _pattern } => {}
+            Rule::Search { field: _field, pattern: _pattern } => {}
+        }
+    }
 }
 
 /// Rules, in the order in which they were written.

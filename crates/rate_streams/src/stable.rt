@@ -29,7 +29,6 @@ pub struct StableParams {
 
 /// What a `stable` keeps between entries: what the field held in the last event, when that run began, and the events of
 /// it that wait. Once it was out of memory it is poisoned, and each later `item` and `tick` answers `Memory`.
-#[derive(Drop)]
 pub struct StableState {
     secs: u32,
     field: Field,
@@ -37,6 +36,12 @@ pub struct StableState {
     began: u64,
     waiting: Events,
     poisoned: bool,
+}
+
+impl Drop for StableState {
+    fn drop(self) {
+        let StableState { secs: _secs, field: _field, last: _last, began: _began, waiting: _waiting, poisoned: _poisoned } = self;
+    }
 }
 
 impl StableState {

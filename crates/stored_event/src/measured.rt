@@ -14,11 +14,16 @@ use std::mem;
 pub const EMPTY_REPLY: usize = 2;
 
 /// An event, and how many bytes it adds to a reply, once that was asked for.
-#[derive(Drop)]
 pub struct MeasuredEvent {
     // `None` if nobody asked since the event changed, or if it is 2^32 or more.
     len: Option<u32>,
     event: Event,
+}
+
+impl Drop for MeasuredEvent {
+    fn drop(self) {
+        let MeasuredEvent { len: _len, event: _event } = self;
+    }
 }
 
 impl Model for MeasuredEvent {
@@ -53,7 +58,8 @@ impl MeasuredEvent {
     pub(crate) fn into_event(self) -> Event
         ensures { result ≡ self }
     {
-        self.event
+        let MeasuredEvent { len: _, event } = self;
+        event
     }
 
     /// Appends the event, as a reply has it, with its tag and its length. A reply with it alone is written into `reply`,

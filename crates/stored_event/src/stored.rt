@@ -24,9 +24,14 @@ pub(crate) enum Kept<P> {
 }
 
 /// An event in an index, which owns its parts or is packed. Contracts see the event.
-#[derive(Drop)]
 pub struct Stored<P: EventForm> {
     kept: Kept<P>,
+}
+
+impl<P: EventForm> Drop for Stored<P> {
+    fn drop(self) {
+        let Stored { kept: _kept } = self;
+    }
 }
 
 impl<P: EventForm> Model for Stored<P> {
@@ -146,7 +151,8 @@ impl<P: EventForm> Stored<P> {
     pub fn into_event(self, alloc: Global) -> Result<Event, Memory>
         ensures { IfOk result (λ event. event ≡ self) }
     {
-        match self.kept {
+        let Stored { kept } = self;
+        match kept {
             Kept::Owned(measured) => Ok(Box::into_inner(measured).into_event()),
             Kept::Packed(packed) => packed.unpack(alloc),
         }

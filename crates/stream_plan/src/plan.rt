@@ -2,13 +2,17 @@ use ev_types::{Field, Fields, Fold, Sets, Tags, Text, Value};
 use pred_eval::Rule;
 
 /// The streams that get every event, in their order.
-#[derive(Drop)]
 pub struct Plan {
     pub streams: Streams,
 }
 
+impl Drop for Plan {
+    fn drop(self) {
+        let Plan { streams: _streams } = self;
+    }
+}
+
 /// A stream, and the streams that get what it passes on.
-#[derive(Drop)]
 pub struct Stream {
     pub kind: Kind,
     pub children: Streams,
@@ -16,11 +20,16 @@ pub struct Stream {
     pub otherwise: Streams,
 }
 
+impl Drop for Stream {
+    fn drop(self) {
+        let Stream { kind: _kind, children: _children, otherwise: _otherwise } = self;
+    }
+}
+
 /// Streams, in the order in which they get their items.
 pub type Streams = Vec<Stream>;
 
 /// What a stream does with its items. A count is from 1 to 1,000,000, seconds are from 1 to 604,800.
-#[derive(Drop)]
 pub enum Kind {
     /// Writes each event into the index.
     Index,
@@ -64,4 +73,31 @@ pub enum Kind {
     Coalesce { secs: u32 },
     /// Passes on one event that is folded of each vector.
     Smap(Fold),
+}
+
+impl Drop for Kind {
+    fn drop(self) {
+        match self {
+            Kind::Index => {}
+            Kind::Notice(_a) => {}
+            Kind::Sdo => {}
+            Kind::Where(_a) => {}
+            Kind::With(_a) => {}
+            Kind::Default(_a) => {}
+            Kind::Tag(_a) => {}
+            Kind::By { fields: _fields, idle: _idle } => {}
+            Kind::Changed { field: _field, init: _init } => {}
+            Kind::Runs { count: _count, field: _field } => {}
+            Kind::Throttle { count: _count, secs: _secs } => {}
+            Kind::Rollup { count: _count, secs: _secs } => {}
+            Kind::Batch { count: _count, secs: _secs } => {}
+            Kind::Stable { secs: _secs, field: _field } => {}
+            Kind::FixedEvent { count: _count } => {}
+            Kind::MovingEvent { count: _count } => {}
+            Kind::FixedTime { secs: _secs } => {}
+            Kind::MovingTime { secs: _secs } => {}
+            Kind::Coalesce { secs: _secs } => {}
+            Kind::Smap(_a) => {}
+        }
+    }
 }

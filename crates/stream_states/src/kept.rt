@@ -23,7 +23,6 @@ use window_streams::{
 /// What a stream of one of the kinds that keep something keeps of what came. Once it was out of memory it is poisoned,
 /// and each later `item` and `tick` answers `Memory`. The largest states are in boxes, since each state takes as much
 /// memory as the largest that is not, and a fork has one for each of its streams that keep something.
-#[derive(Drop)]
 pub enum KeptState {
     Changed(ChangedState),
     Runs(Box<RunsState>),
@@ -36,6 +35,24 @@ pub enum KeptState {
     FixedTime(FixedTimeState),
     MovingTime(MovingTimeState),
     Coalesce(CoalesceState),
+}
+
+impl Drop for KeptState {
+    fn drop(self) {
+        match self {
+            KeptState::Changed(_a) => {}
+            KeptState::Runs(_a) => {}
+            KeptState::Throttle(_a) => {}
+            KeptState::Rollup(_a) => {}
+            KeptState::Batch(_a) => {}
+            KeptState::Stable(_a) => {}
+            KeptState::FixedEvent(_a) => {}
+            KeptState::MovingEvent(_a) => {}
+            KeptState::FixedTime(_a) => {}
+            KeptState::MovingTime(_a) => {}
+            KeptState::Coalesce(_a) => {}
+        }
+    }
 }
 
 impl KeptState {

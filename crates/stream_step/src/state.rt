@@ -18,7 +18,6 @@ use stream_plan::Kind;
 use stream_states::KeptState;
 
 /// What a stream keeps between entries.
-#[derive(Drop)]
 pub enum State {
     /// Nothing.
     Empty,
@@ -29,6 +28,17 @@ pub enum State {
     /// Of a `by`: the number of the first regular expression of its children among those of the plan. Each fork is a
     /// copy of the children, so the regular expressions of all forks have these numbers.
     Forks { first: usize },
+}
+
+impl Drop for State {
+    fn drop(self) {
+        match self {
+            State::Empty => {}
+            State::Rule { first: _first, count: _count } => {}
+            State::Kept(_a) => {}
+            State::Forks { first: _first } => {}
+        }
+    }
 }
 
 impl State {

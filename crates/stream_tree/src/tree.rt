@@ -25,13 +25,18 @@ use stream_step::Context;
 
 /// A plan of streams that runs. Once a call ran out of memory it is poisoned, and each later call that can answer
 /// `Memory` does.
-#[derive(Drop)]
 pub struct Tree {
     plan: ReadyPlan,
     forest: Forest,
     /// The moment at which it began, in seconds since 1970.
     start: u64,
     pub(crate) poisoned: bool,
+}
+
+impl Drop for Tree {
+    fn drop(self) {
+        let Tree { plan: _plan, forest: _forest, start: _start, poisoned: _poisoned } = self;
+    }
 }
 
 impl Tree {

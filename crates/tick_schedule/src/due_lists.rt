@@ -17,7 +17,6 @@ use std::collections::{BTreeMap, BTreeSet};
 use std::marker::Model;
 
 /// The ids that are due at each moment. A moment without ids takes no memory.
-#[derive(Drop)]
 pub(crate) struct DueLists {
     // The number of the list of each moment.
     numbers: BTreeMap<u64, usize>,
@@ -27,6 +26,12 @@ pub(crate) struct DueLists {
     first: Option<u64>,
     // The number of the list that got an id last, which is often that of the next id too.
     recent: usize,
+}
+
+impl Drop for DueLists {
+    fn drop(self) {
+        let DueLists { numbers: _numbers, lists: _lists, first: _first, recent: _recent } = self;
+    }
 }
 
 /// The ids that are due at one moment.

@@ -18,11 +18,16 @@ use step_count::{Ledger, Steps};
 /// The moments at which ids are due. An id has one moment at most. The queue takes 32 bytes in a vector for each id up
 /// to the largest that has had a moment, 8 bytes or more in another for each id that has one, and for each moment that
 /// an id has a list and an entry in an ordered map.
-#[derive(Drop)]
 pub struct DueQueue {
     places: Places,
     // The same by moment.
     lists: DueLists,
+}
+
+impl Drop for DueQueue {
+    fn drop(self) {
+        let DueQueue { places: _places, lists: _lists } = self;
+    }
 }
 
 impl Model for DueQueue {
