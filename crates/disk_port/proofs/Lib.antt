@@ -1,1 +1,2 @@
 pub mod PastLaws
+pub mod NameLemmas

@@ -1,17 +1,18 @@
 ghost use Rattle.std.specs.Prelude.{◌≡◌, length, IfSome};
+ghost use Rattle.std.specs.Io.KnownBytes.{Consumes, Keeps};
 ghost use Rattle.ports.specs.Links.{IsPieceWithin, IsWithin};
 ghost use Rattle.mio_links.specs.Turns.{IsGiven, IsOn};
+ghost use Rattle.mio_links.specs.Streams.{EndsAtEnd, Took, piece_found};
 
 use mio::event::Event;
-use mio::net::TcpStream;
 use ports::{PIECE_LIMIT, SendAnswer, Want, What};
 use std::io::{ErrorKind, Read, Write};
 
-/// One client's connection, and what the system has reported of it. Readiness is reported once, when it changes, so it
+/// One client's connection over a stream, and what the system has reported of it. Readiness is reported once, when it changes, so it
 /// is kept until a call finds that it has ended.
 #[derive(Drop)]
-pub(crate) struct Client {
-    stream: TcpStream,
+pub(crate) struct Client<S: Read + Write> {
+    stream: S,
     // A read may find bytes or the end.
     readable: bool,
     // The end of the bytes, or an error, was reported: the reads go on until they find it.
@@ -41,9 +42,11 @@ pub(crate) enum Waiting {
     HeldBack,
 }
 
-impl Client {
+impl<S: Read + Write> Client<S> {
     /// A client of which nothing was reported yet, and which was accepted at this reading of the clock.
-    pub(crate) fn fresh(stream: TcpStream, secs: u64) -> Client {
+    pub(crate) fn fresh(stream: S, secs: u64) -> Client<S>
+        ensures { result.stream ≡ stream }
+    {
         Client {
             stream,
             readable: false,
@@ -58,7 +61,9 @@ impl Client {
     }
 
     /// Keeps what the system reports.
-    pub(crate) fn note(&mut self, event: &Event) {
+    pub(crate) fn note(&mut self, event: &Event)
+        ensures { self.new.stream ≡ self.old.stream }
+    {
         if event.is_error() {
             self.failed = true;
         }
@@ -94,11 +99,17 @@ impl Client {
 
     /// What happened on the link with this number, if it is something that the server waits for. Bytes are read
     /// straight into `buf`.
+    #[tactic(auto, using(crate::proofs::StreamLemmas::kept_nothing, crate::proofs::StreamLemmas::took_nothing))]
     pub(crate) fn turn(&mut self, link: u64, want: &Want, buf: &mut [u8]) -> Option<What>
         requires { length buf.old ≡ PIECE_LIMIT }
         ensures within { IfSome result (IsPieceWithin PIECE_LIMIT) }
         ensures given { IfSome result IsGiven }
         ensures link { IfSome result (IsOn link) }
+
+        // The bytes of a read are the next ones of the stream, and no other turn takes any.
+        ensures bytes { Consumes (S.remaining self.old.stream) (S.remaining self.new.stream)
+            (piece_found result buf.new) }
+        ensures end { IfSome result (EndsAtEnd (S.remaining self.new.stream)) }
     {
         if self.has_room() && want.room {
             self.blocked = false;
@@ -114,11 +125,15 @@ impl Client {
     }
 
     /// Reads once.
+    #[tactic(auto, using(crate::proofs::StreamLemmas::kept_nothing, crate::proofs::StreamLemmas::took_nothing))]
     fn read(&mut self, link: u64, buf: &mut [u8]) -> Option<What>
         requires { length buf.old ≡ PIECE_LIMIT }
         ensures within { IfSome result (IsPieceWithin PIECE_LIMIT) }
         ensures given { IfSome result IsGiven }
         ensures link { IfSome result (IsOn link) }
+        ensures bytes { Consumes (S.remaining self.old.stream) (S.remaining self.new.stream)
+            (piece_found result buf.new) }
+        ensures end { IfSome result (EndsAtEnd (S.remaining self.new.stream)) }
     {
         match self.stream.read(buf) {
             Ok(0) => {
@@ -144,7 +159,8 @@ impl Client {
 
     /// The link broke. It has no further turn unless the system reports something of it.
     fn break_off(&mut self, link: u64) -> What
-        ensures { result ≡ What.Broken link }
+        ensures what { result ≡ What.Broken link }
+        ensures stream { self.new.stream ≡ self.old.stream }
     {
         self.readable = false;
         self.failed = false;
@@ -153,8 +169,13 @@ impl Client {
     }
 
     /// Offers the bytes to the system.
+    #[tactic(auto, using(crate::proofs::StreamLemmas::kept_nothing, crate::proofs::StreamLemmas::took_nothing))]
     pub(crate) fn send(&mut self, bytes: &[u8]) -> SendAnswer
-        ensures { IsWithin (length bytes.now) result }
+        ensures within { IsWithin (length bytes.now) result }
+
+        // What was taken is what the stream got.
+        ensures bytes { Took (S.contents self.old.stream) (S.contents self.new.stream)
+            bytes.now result }
     {
         match self.stream.write(bytes) {
             Ok(0) => self.wait(true),
@@ -172,7 +193,8 @@ impl Client {
 
     /// Nothing was taken. Where there may be room all the same, the system does not report it again.
     fn wait(&mut self, roomy: bool) -> SendAnswer
-        ensures { result ≡ SendAnswer.Later }
+        ensures answer { result ≡ SendAnswer.Later }
+        ensures stream { self.new.stream ≡ self.old.stream }
     {
         self.blocked = true;
         self.roomy = roomy;

@@ -31,7 +31,7 @@ pub struct Dial {
     // A connection that was begun, and is neither there nor failed yet.
     begun: Option<TcpStream>,
     // The connection, once it is there and until it is closed.
-    client: Option<Client>,
+    client: Option<Client<TcpStream>>,
 }
 
 impl Dial {

@@ -9,7 +9,10 @@ use crate::fault::LinksFault;
 use crate::links::seconds;
 use ev_types::{Memory, Text};
 use mio::Events;
-use ports::{Links, ListenAnswer, PIECE_LIMIT, SendAnswer, Turn, Wants, What};
+use ports::{
+    CallLog, Links, ListenAnswer, PIECE_LIMIT, SendAnswer, Turn, Wants, What, log_listen, log_send,
+    log_turn,
+};
 use std::alloc::Global;
 use std::net::Net;
 use std::time::Clock;
@@ -17,7 +20,7 @@ use std::time::Clock;
 // How many events the system reports at once, at most.
 const EVENTS_AT_ONCE: usize = 16;
 
-/// The link of a client to a server over TCP, and the system's clock. It does not report its calls. `listen` begins to
+/// The link of a client to a server over TCP, and the system's clock. `listen` begins to
 /// connect to the address. Once it is connected, a turn is that link 0 opened. No turn is [`What::Stopped`]. If no
 /// address of a host can be connected to, a call of `listen` or `next` fails.
 #[derive(Drop)]
@@ -28,19 +31,44 @@ pub struct DialLinks<'a, R: Net + Clock> {
     pub dial: Option<Dial>,
     /// The number of calls of [`Links::listen`] and [`Links::next`] that failed.
     pub faults: u64,
+    /// The calls so far, which only proofs see.
+    pub calls: CallLog,
 }
 
 impl<'a, R: Net + Clock> DialLinks<'a, R> {
     /// A link that is not connected yet.
     pub fn fresh(rt: &'a R, alloc: Global) -> Result<DialLinks<'a, R>, Memory>
-        ensures { IfOk result (λ links. links.faults ≡ 0) }
+        ensures faults { IfOk result (λ links. links.faults ≡ 0) }
+        ensures calls { IfOk result (λ links. links.calls ≡ []) }
     {
         Ok(DialLinks {
             rt,
             events: Events::with_capacity(alloc, EVENTS_AT_ONCE)?,
             dial: None,
             faults: 0,
+            calls: CallLog::fresh(),
         })
+    }
+
+    /// What a call of `listen` is answered with. A fault is counted.
+    fn listen_on(&mut self, alloc: Global, address: &Text) -> ListenAnswer
+        ensures cause { HasListenCause self.old.faults self.new.faults result }
+        ensures faults { self.old.faults ≤ self.new.faults }
+        ensures calls { self.new.calls ≡ self.old.calls }
+    {
+        match Dial::begin(self.rt, alloc, address) {
+            Ok(dial) => {
+                self.dial = Some(dial);
+                ListenAnswer::Ready {
+                    secs: seconds(self.rt),
+                }
+            }
+            Err(LinksFault::Failed) => {
+                self.faults = self.faults.saturating_add(1);
+                ListenAnswer::Failed
+            }
+            Err(LinksFault::Memory) => ListenAnswer::Memory,
+        }
     }
 
     /// The next turn but for its time, or why none can be given.
@@ -50,6 +78,7 @@ impl<'a, R: Net + Clock> DialLinks<'a, R> {
         ensures given { IfOk result IsGiven }
         ensures link { IfOk result (λ what. OfLink what (λ link. link ≡ 0)) }
         ensures faults { self.new.faults ≡ self.old.faults }
+        ensures calls { self.new.calls ≡ self.old.calls }
     {
         let Some(dial) = &mut self.dial else {
             return Err(LinksFault::Failed);
@@ -65,6 +94,7 @@ impl<'a, R: Net + Clock> DialLinks<'a, R> {
         ensures within { IsPieceWithin PIECE_LIMIT result }
         ensures cause { HasNextCause self.old.faults self.new.faults result }
         ensures faults { self.old.faults ≤ self.new.faults }
+        ensures calls { self.new.calls ≡ self.old.calls }
         ensures link { OfLink result (λ link. link ≡ 0) }
         ensures goes_on { result ≢ What.Stopped }
     {
@@ -82,34 +112,26 @@ impl<'a, R: Net + Clock> DialLinks<'a, R> {
 impl<'a, R: Net + Clock> Links for DialLinks<'a, R> {
     ghost use Rattle.mio_links.specs.Reports.{report_of};
 
-    ghost report = { λ links. report_of links.faults };
+    ghost report = { λ links. report_of links.calls links.faults };
 
-    #[tactic(auto, using(crate::proofs::ReportLemmas::unreported))]
+    #[tactic(auto, using(crate::proofs::ReportLemmas::told))]
     fn listen(&mut self, alloc: Global, address: &Text) -> ListenAnswer
-        ensures adds { AddsCalls (report_of self.old.faults) (report_of self.new.faults)
+        ensures adds { AddsCalls (report_of self.old.calls self.old.faults)
+            (report_of self.new.calls self.new.faults)
             (listen_entries address.now result) }
         ensures cause { HasListenCause self.old.faults self.new.faults result }
     {
-        match Dial::begin(self.rt, alloc, address) {
-            Ok(dial) => {
-                self.dial = Some(dial);
-                ListenAnswer::Ready {
-                    secs: seconds(self.rt),
-                }
-            }
-            Err(LinksFault::Failed) => {
-                self.faults = self.faults.saturating_add(1);
-                ListenAnswer::Failed
-            }
-            Err(LinksFault::Memory) => ListenAnswer::Memory,
-        }
+        let answer = self.listen_on(alloc, address);
+        log_listen(&mut self.calls, address, answer);
+        answer
     }
 
-    #[tactic(auto, using(crate::proofs::ReportLemmas::unreported))]
+    #[tactic(auto, using(crate::proofs::ReportLemmas::told))]
     fn next(&mut self, _alloc: Global, wants: &Wants, buf: &mut [u8]) -> Turn
         requires { length buf.old ≡ PIECE_LIMIT }
         ensures within { IsPieceWithin PIECE_LIMIT result.what }
-        ensures adds { AddsCalls (report_of self.old.faults) (report_of self.new.faults)
+        ensures adds { AddsCalls (report_of self.old.calls self.old.faults)
+            (report_of self.new.calls self.new.faults)
             (next_entries wants.now buf.new result) }
         ensures cause { HasNextCause self.old.faults self.new.faults result.what }
 
@@ -117,35 +139,41 @@ impl<'a, R: Net + Clock> Links for DialLinks<'a, R> {
         ensures link { OfLink result.what (λ link. link ≡ 0) }
         ensures goes_on { result.what ≢ What.Stopped }
     {
-        let what = self.what(wants, buf);
-        Turn {
+        let turn = Turn {
+            what: self.what(wants, buf),
             secs: seconds(self.rt),
-            what,
-        }
+        };
+        log_turn(&mut self.calls, wants, turn, buf);
+        turn
     }
 
-    #[tactic(auto, using(crate::proofs::ReportLemmas::unreported))]
+    #[tactic(auto, using(crate::proofs::ReportLemmas::told))]
     fn send(&mut self, _alloc: Global, link: u64, bytes: &[u8]) -> SendAnswer
         requires { 0 < length bytes.now }
         ensures within { IsWithin (length bytes.now) result }
-        ensures adds { AddsCalls (report_of self.old.faults) (report_of self.new.faults)
+        ensures adds { AddsCalls (report_of self.old.calls self.old.faults)
+            (report_of self.new.calls self.new.faults)
             (send_entries link bytes.now result) }
         ensures no_fault { self.new.faults ≡ self.old.faults }
     {
-        match &mut self.dial {
+        let answer = match &mut self.dial {
             Some(dial) => dial.send(link, bytes),
             None => SendAnswer::Failed,
-        }
+        };
+        log_send(&mut self.calls, link, bytes, answer);
+        answer
     }
 
-    #[tactic(auto, using(crate::proofs::ReportLemmas::unreported))]
+    #[tactic(auto, using(crate::proofs::ReportLemmas::told))]
     fn close(&mut self, link: u64)
-        ensures adds { AddsCalls (report_of self.old.faults) (report_of self.new.faults)
+        ensures adds { AddsCalls (report_of self.old.calls self.old.faults)
+            (report_of self.new.calls self.new.faults)
             (Close link ∷ []) }
         ensures no_fault { self.new.faults ≡ self.old.faults }
     {
         if let Some(dial) = &mut self.dial {
             dial.close(link);
         }
+        self.calls.closed(link);
     }
 }

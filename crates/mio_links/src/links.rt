@@ -11,7 +11,10 @@ use crate::readings::Readings;
 use crate::sockets::Sockets;
 use ev_types::{Memory, Text};
 use mio::Events;
-use ports::{Links, ListenAnswer, PIECE_LIMIT, SendAnswer, Turn, Wants, What};
+use ports::{
+    CallLog, Links, ListenAnswer, PIECE_LIMIT, SendAnswer, Turn, Wants, What, log_listen, log_send,
+    log_turn,
+};
 use std::alloc::Global;
 use std::net::Net;
 use std::time::{Clock, SystemTime, UNIX_EPOCH};
@@ -22,7 +25,7 @@ const EVENTS_AT_ONCE: usize = 256;
 // How many milliseconds a turn waits at most.
 const LONGEST_WAIT: u64 = 100;
 
-/// The links to clients over TCP, and the system's clock. They do not report their calls. Links are numbered from 0 in
+/// The links to clients over TCP, and the system's clock. Links are numbered from 0 in
 /// the order in which they open, and no turn is [`What::Stopped`].
 #[derive(Drop)]
 pub struct MioLinks<'a, R: Net + Clock> {
@@ -35,6 +38,8 @@ pub struct MioLinks<'a, R: Net + Clock> {
     pub opened: u64,
     /// The number of calls of [`Links::listen`] and [`Links::next`] that failed.
     pub faults: u64,
+    /// The calls so far, which only proofs see.
+    pub calls: CallLog,
 }
 
 impl<'a, R: Net + Clock> MioLinks<'a, R> {
@@ -42,6 +47,7 @@ impl<'a, R: Net + Clock> MioLinks<'a, R> {
     pub fn fresh(rt: &'a R, alloc: Global) -> Result<MioLinks<'a, R>, Memory>
         ensures opened { IfOk result (λ links. links.opened ≡ 0) }
         ensures faults { IfOk result (λ links. links.faults ≡ 0) }
+        ensures calls { IfOk result (λ links. links.calls ≡ []) }
     {
         Ok(MioLinks {
             rt,
@@ -50,7 +56,31 @@ impl<'a, R: Net + Clock> MioLinks<'a, R> {
             sockets: None,
             opened: 0,
             faults: 0,
+            calls: CallLog::fresh(),
         })
+    }
+
+    /// What a call of `listen` is answered with. A fault is counted.
+    fn listen_on(&mut self, alloc: Global, address: &Text) -> ListenAnswer
+        ensures cause { HasListenCause self.old.faults self.new.faults result }
+        ensures faults { self.old.faults ≤ self.new.faults }
+        ensures opened { self.new.opened ≡ self.old.opened }
+        ensures calls { self.new.calls ≡ self.old.calls }
+    {
+        match Sockets::open(self.rt, alloc, address) {
+            Ok(sockets) => {
+                self.sockets = Some(sockets);
+                self.readings = Readings::first(seconds(self.rt));
+                ListenAnswer::Ready {
+                    secs: self.readings.last,
+                }
+            }
+            Err(LinksFault::Failed) => {
+                self.faults = self.faults.saturating_add(1);
+                ListenAnswer::Failed
+            }
+            Err(LinksFault::Memory) => ListenAnswer::Memory,
+        }
     }
 
     /// What happens in the next turn, or why no turn can be given. The clock is read too, and its reading is the turn's
@@ -63,6 +93,7 @@ impl<'a, R: Net + Clock> MioLinks<'a, R> {
         ensures opened { IfOk result (CountsOpened self.old.opened self.new.opened) }
         ensures err { OnErr result (self.new.opened ≡ self.old.opened) }
         ensures faults { self.new.faults ≡ self.old.faults }
+        ensures calls { self.new.calls ≡ self.old.calls }
     {
         let Some(sockets) = &mut self.sockets else {
             return Err(LinksFault::Failed);
@@ -84,6 +115,7 @@ impl<'a, R: Net + Clock> MioLinks<'a, R> {
         ensures within { IsPieceWithin PIECE_LIMIT result }
         ensures cause { HasNextCause self.old.faults self.new.faults result }
         ensures faults { self.old.faults ≤ self.new.faults }
+        ensures calls { self.new.calls ≡ self.old.calls }
         ensures link { OfLink result (IsOpenOn self.new.sockets) }
         ensures opened { CountsOpened self.old.opened self.new.opened result }
         ensures goes_on { result ≢ What.Stopped }
@@ -102,38 +134,29 @@ impl<'a, R: Net + Clock> MioLinks<'a, R> {
 impl<'a, R: Net + Clock> Links for MioLinks<'a, R> {
     ghost use Rattle.mio_links.specs.Reports.{report_of};
 
-    ghost report = { λ links. report_of links.faults };
+    ghost report = { λ links. report_of links.calls links.faults };
 
-    #[tactic(auto, using(crate::proofs::ReportLemmas::unreported))]
+    #[tactic(auto, using(crate::proofs::ReportLemmas::told))]
     fn listen(&mut self, alloc: Global, address: &Text) -> ListenAnswer
-        ensures adds { AddsCalls (report_of self.old.faults) (report_of self.new.faults)
+        ensures adds { AddsCalls (report_of self.old.calls self.old.faults)
+            (report_of self.new.calls self.new.faults)
             (listen_entries address.now result) }
         ensures cause { HasListenCause self.old.faults self.new.faults result }
 
         // More than links must report: the numbers of links do not begin again.
         ensures opened { self.new.opened ≡ self.old.opened }
     {
-        match Sockets::open(self.rt, alloc, address) {
-            Ok(sockets) => {
-                self.sockets = Some(sockets);
-                self.readings = Readings::first(seconds(self.rt));
-                ListenAnswer::Ready {
-                    secs: self.readings.last,
-                }
-            }
-            Err(LinksFault::Failed) => {
-                self.faults = self.faults.saturating_add(1);
-                ListenAnswer::Failed
-            }
-            Err(LinksFault::Memory) => ListenAnswer::Memory,
-        }
+        let answer = self.listen_on(alloc, address);
+        log_listen(&mut self.calls, address, answer);
+        answer
     }
 
-    #[tactic(auto, using(crate::proofs::ReportLemmas::unreported))]
+    #[tactic(auto, using(crate::proofs::ReportLemmas::told))]
     fn next(&mut self, _alloc: Global, wants: &Wants, buf: &mut [u8]) -> Turn
         requires { length buf.old ≡ PIECE_LIMIT }
         ensures within { IsPieceWithin PIECE_LIMIT result.what }
-        ensures adds { AddsCalls (report_of self.old.faults) (report_of self.new.faults)
+        ensures adds { AddsCalls (report_of self.old.calls self.old.faults)
+            (report_of self.new.calls self.new.faults)
             (next_entries wants.now buf.new result) }
         ensures cause { HasNextCause self.old.faults self.new.faults result.what }
 
@@ -143,33 +166,38 @@ impl<'a, R: Net + Clock> Links for MioLinks<'a, R> {
         ensures link { OfLink result.what (IsOpenOn self.new.sockets) }
         ensures goes_on { result.what ≢ What.Stopped }
     {
-        let what = self.what(wants, buf);
-        Turn {
+        let turn = Turn {
+            what: self.what(wants, buf),
             secs: self.readings.last,
-            what,
-        }
+        };
+        log_turn(&mut self.calls, wants, turn, buf);
+        turn
     }
 
-    #[tactic(auto, using(crate::proofs::ReportLemmas::unreported))]
+    #[tactic(auto, using(crate::proofs::ReportLemmas::told))]
     fn send(&mut self, _alloc: Global, link: u64, bytes: &[u8]) -> SendAnswer
         requires { 0 < length bytes.now }
         ensures within { IsWithin (length bytes.now) result }
-        ensures adds { AddsCalls (report_of self.old.faults) (report_of self.new.faults)
+        ensures adds { AddsCalls (report_of self.old.calls self.old.faults)
+            (report_of self.new.calls self.new.faults)
             (send_entries link bytes.now result) }
         ensures no_fault { self.new.faults ≡ self.old.faults }
 
         // More than links must report: it opens no link.
         ensures opened { self.new.opened ≡ self.old.opened }
     {
-        match &mut self.sockets {
+        let answer = match &mut self.sockets {
             Some(sockets) => sockets.send(link, bytes),
             None => SendAnswer::Failed,
-        }
+        };
+        log_send(&mut self.calls, link, bytes, answer);
+        answer
     }
 
-    #[tactic(auto, using(crate::proofs::ReportLemmas::unreported))]
+    #[tactic(auto, using(crate::proofs::ReportLemmas::told))]
     fn close(&mut self, link: u64)
-        ensures adds { AddsCalls (report_of self.old.faults) (report_of self.new.faults)
+        ensures adds { AddsCalls (report_of self.old.calls self.old.faults)
+            (report_of self.new.calls self.new.faults)
             (Close link ∷ []) }
         ensures no_fault { self.new.faults ≡ self.old.faults }
 
@@ -179,6 +207,7 @@ impl<'a, R: Net + Clock> Links for MioLinks<'a, R> {
         if let Some(sockets) = &mut self.sockets {
             sockets.close(link);
         }
+        self.calls.closed(link);
     }
 }
 

@@ -1,10 +1,11 @@
-ghost use Rattle.std.specs.Prelude.{◌≡◌, IfErr};
+ghost use Rattle.std.specs.Prelude.{◌≡◌, IfErr, OnOk};
 
 use crate::client::{Client, Waiting};
 use crate::fault::LinksFault;
 use ports::Want;
 use std::alloc::Global;
 use std::collections::VecDeque;
+use std::io::{Read, Write};
 
 /// What may have a turn to give.
 #[derive(Clone, Copy)]
@@ -26,6 +27,8 @@ pub(crate) struct Queue {
 }
 
 impl Queue {
+    ghost use Rattle.mio_links.specs.Queues.{HasRoom};
+
     pub(crate) fn fresh(alloc: Global) -> Queue {
         Queue {
             sources: VecDeque::new(alloc),
@@ -62,15 +65,25 @@ impl Queue {
         Ok(())
     }
 
-    /// Adds the link to the queue, or to the links that are held back, if it has anything to give.
-    pub(crate) fn enter(&mut self, client: &mut Client, want: &Want) -> Result<(), LinksFault> {
+    /// Takes memory for one link more, wherever it will wait.
+    pub(crate) fn make_room(&mut self) -> Result<(), LinksFault>
+        ensures room { OnOk result (HasRoom self.new) }
+    {
+        self.sources.reserve(1)?;
+        self.held_back.reserve(1)?;
+        Ok(())
+    }
+
+    /// Adds the link to the queue, or to the links that are held back, if it has anything to give. It takes no memory.
+    pub(crate) fn enter<S: Read + Write>(&mut self, client: &mut Client<S>, want: &Want)
+        requires { HasRoom self.old }
+    {
         client.waiting = client.next_waiting(want);
         match client.waiting {
-            Waiting::Queued => self.sources.push_back(Source::Link(want.link))?,
-            Waiting::HeldBack => self.held_back.push_back(want.link)?,
+            Waiting::Queued => self.sources.push_back_reserved(Source::Link(want.link)),
+            Waiting::HeldBack => self.held_back.push_back_reserved(want.link),
             Waiting::Nowhere => {}
         }
-        Ok(())
     }
 
     /// How many links are held back.

@@ -1,4 +1,4 @@
-ghost use Rattle.std.specs.Prelude.{◌≡◌, ℕ, length, true, Option, Some, IfErr, IfNone, IfOk, IfSome, OnOk};
+ghost use Rattle.std.specs.Prelude.{◌≡◌, ℕ, length, true, Option, Some, IfErr, IfNone, IfOk, IfSome, OnErr, OnOk};
 ghost use Rattle.std.specs.IoError.{raw_os_error};
 ghost use Rattle.std.specs.Option.{ForSome};
 ghost use Rattle.ports.specs.Links.{IsPieceWithin, IsWithin};
@@ -48,7 +48,7 @@ pub struct Sockets {
     lacking: bool,
     // A connection that was accepted, and waits for another link to be closed.
     arrived: Option<TcpStream>,
-    clients: HashMap<u64, Client>,
+    clients: HashMap<u64, Client<TcpStream>>,
     queue: Queue,
 }
 
@@ -141,8 +141,9 @@ impl Sockets {
             let Some(link) = self.queue.take_held_back() else {
                 break;
             };
+            self.queue.make_room()?;
             if let Some(client) = self.clients.get_mut(&link) {
-                self.queue.enter(client, &want_of(wants, link))?;
+                self.queue.enter(client, &want_of(wants, link));
             }
         }
         Ok(())
@@ -220,7 +221,11 @@ impl Sockets {
         ensures link { IfOk result (λ found. IfSome found (λ what.
             OfLink what (λ link. has_link self.new link ≡ true))) }
         ensures on { IfOk result (λ found. IfSome found (IsOn link)) }
+
+        // Where memory runs out, nothing was read.
+        ensures untouched { OnErr result (self.new.clients ≡ self.old.clients) }
     {
+        self.queue.make_room()?;
         let Some(client) = self.clients.get_mut(&link) else {
             return Ok(None);
         };
@@ -229,7 +234,7 @@ impl Sockets {
         if what.is_some() {
             client.heard = secs;
         }
-        self.queue.enter(client, &want)?;
+        self.queue.enter(client, &want);
         Ok(what)
     }
 

@@ -1,3 +1,5 @@
+pub mod StreamLemmas
+pub mod GhostListLemmas
 pub mod FileLemmas
 pub mod RuleLemmas
 pub mod MarkLemmas

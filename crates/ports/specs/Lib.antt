@@ -8,6 +8,8 @@ pub mod Links
 pub mod Playing
 pub mod Calls
 pub mod Tables
+pub mod GhostLists
+pub mod Streams
 pub mod Marks
 pub mod ScriptLinks
 pub mod FaultLinks

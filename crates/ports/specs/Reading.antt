@@ -15,6 +15,8 @@ pub record StoreReport : Type 0 where
   pub held : List ℕ → Content
   -- the reads so far that did not answer out of memory, in order, where it reports them
   pub reads : Option (List StoreRead)
+  -- the name and the bytes of each file that a read gave, in order, where it reports them
+  pub gave : Option (List (List ℕ × List ℕ))
   -- how many bytes were taken from files
   pub taken : ℕ
   -- how many reads failed
@@ -38,6 +40,13 @@ HasCause content limit faults faults' taken taken' Failed = Rose faults faults'
 HasCause content limit faults faults' taken taken' TooLong =
     (IsOverLimit content limit) × (RoseBy (limit + 1) taken taken') × (faults' ≡ faults)
 HasCause content limit faults faults' taken taken' Memory = (faults' ≡ faults) × (taken' ≡ taken)
+
+-- the file that one call adds to those given
+abbrev pub given_by : List ℕ → ReadAnswer → List (List ℕ × List ℕ)
+given_by name (Bytes blob) = (name, blob) ∷ []
+given_by name Failed = []
+given_by name TooLong = []
+given_by name Memory = []
 
 -- the reads that one call adds to those made: none where it is out of memory
 abbrev pub reads_made : List ℕ → ReadAnswer → List StoreRead

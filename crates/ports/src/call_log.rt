@@ -1,10 +1,11 @@
 //! The log of the calls of links, which only proofs see.
 
-ghost use Rattle.std.specs.Prelude.{◌≡◌, [], ◌∷◌, ◌++◌};
+ghost use Rattle.std.specs.Prelude.{◌≡◌, ℕ, List, ◌≤◌, [], ◌∷◌, ◌++◌, length, take};
+ghost use Rattle.ports.specs.Links.{IsPieceWithin, listen_entries, next_entries, piece_of, send_entries};
 ghost use Rattle.ports.specs.Marks.{decoded, with_bytes, with_wants};
 ghost use Rattle.ports.specs.declared.entry.Entry.TheVariants.{Listen, Next, Send, Close};
 
-use crate::links::{ListenAnswer, SendAnswer, Turn, Want, Wants};
+use crate::links::{ListenAnswer, PIECE_LIMIT, SendAnswer, Turn, Want, Wants, What};
 use ev_types::Text;
 use http_server::Log;
 use std::marker::Model;
@@ -12,7 +13,7 @@ use std::marker::Model;
 /// The calls of links, in order, which contracts see as entries. It takes no memory, and nothing of it is kept when the
 /// program runs.
 #[derive(Drop)]
-pub(crate) struct CallLog {
+pub struct CallLog {
     // A `Log` is a ghost list: it has no bytes when the program runs.
     marks: Log<Mark, u8>,
 }
@@ -42,20 +43,20 @@ impl Model for CallLog {
 }
 
 impl CallLog {
-    pub(crate) fn fresh() -> CallLog
+    pub fn fresh() -> CallLog
         ensures { result ≡ [] }
     {
         CallLog { marks: Log::new() }
     }
 
-    pub(crate) fn listened(&mut self, address: &Text, answer: ListenAnswer)
+    pub fn listened(&mut self, address: &Text, answer: ListenAnswer)
         ensures { self.new ≡ self.old ++ Listen address.now answer ∷ [] }
     {
         add_bytes(&mut self.marks, address.as_bytes());
         self.marks = self.marks.and(&Mark::Listen(answer), &0);
     }
 
-    pub(crate) fn turned(&mut self, wants: &Wants, turn: Turn, piece: &[u8])
+    pub fn turned(&mut self, wants: &Wants, turn: Turn, piece: &[u8])
         ensures { self.new ≡ self.old ++ Next wants.now turn piece.now ∷ [] }
     {
         add_wants(&mut self.marks, wants.as_slice());
@@ -63,14 +64,14 @@ impl CallLog {
         self.marks = self.marks.and(&Mark::Next(turn), &0);
     }
 
-    pub(crate) fn sent(&mut self, link: u64, bytes: &[u8], answer: SendAnswer)
+    pub fn sent(&mut self, link: u64, bytes: &[u8], answer: SendAnswer)
         ensures { self.new ≡ self.old ++ Send link bytes.now answer ∷ [] }
     {
         add_bytes(&mut self.marks, bytes);
         self.marks = self.marks.and(&Mark::Send { link, answer }, &0);
     }
 
-    pub(crate) fn closed(&mut self, link: u64)
+    pub fn closed(&mut self, link: u64)
         ensures { self.new ≡ self.old ++ Close link ∷ [] }
     {
         self.marks = self.marks.and(&Mark::Close { link }, &0);
@@ -94,5 +95,45 @@ fn add_wants(marks: &mut Log<Mark, u8>, wants: &[Want])
 {
     for want in wants {
         *marks = marks.and(&Mark::Want(*want), &0);
+    }
+}
+
+/// The number of bytes that came in a turn.
+fn count_read(what: What) -> usize
+    ensures within { IsPieceWithin PIECE_LIMIT what → result ≤ PIECE_LIMIT }
+    ensures piece { (buf : List ℕ) → take result buf ≡ piece_of what buf }
+{
+    match what {
+        What::Read { link: _, count } => count,
+        _ => 0,
+    }
+}
+
+/// Logs an answer to `listen`, but for one of which memory ran out.
+pub fn log_listen(log: &mut CallLog, address: &Text, answer: ListenAnswer)
+    ensures { log.new ≡ log.old ++ listen_entries address.now answer }
+{
+    if answer != ListenAnswer::Memory {
+        log.listened(address, answer);
+    }
+}
+
+/// Logs a turn, with the bytes of a read, but for one of which memory ran out.
+pub fn log_turn(log: &mut CallLog, wants: &Wants, turn: Turn, buf: &[u8])
+    requires whole { length buf.now ≡ PIECE_LIMIT }
+    requires within { IsPieceWithin PIECE_LIMIT turn.what }
+    ensures { log.new ≡ log.old ++ next_entries wants.now buf.now turn }
+{
+    if turn.what != What::Memory {
+        log.turned(wants, turn, &buf[..count_read(turn.what)]);
+    }
+}
+
+/// Logs a send, but for one of which memory ran out.
+pub fn log_send(log: &mut CallLog, link: u64, bytes: &[u8], answer: SendAnswer)
+    ensures { log.new ≡ log.old ++ send_entries link bytes.now answer }
+{
+    if answer != SendAnswer::Memory {
+        log.sent(link, bytes, answer);
     }
 }

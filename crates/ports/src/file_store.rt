@@ -1,6 +1,7 @@
-ghost use Rattle.std.specs.Prelude.{◌≡◌, ◌↔◌, ◌+◌, ◌≤◌, ◌++◌, None, take, vec_len, IsTrue, IfSome, IsErrAnd, OnOk};
+ghost use Rattle.std.specs.Prelude.{◌≡◌, ◌↔◌, ◌+◌, ◌≤◌, [], ◌++◌, None, Some, take, vec_len, IsTrue, IfSome, IsErrAnd, OnOk};
 ghost use Rattle.std.specs.IoError.{error_kind};
 
+use crate::ghost_lists::{FileLog, ReadLog};
 use crate::store::{ReadAnswer, Store};
 use ev_types::{Blob, Text};
 use std::alloc::Global;
@@ -8,7 +9,7 @@ use std::io::{ErrorKind, Read};
 use std::rt::Files;
 use std::{fs, io};
 
-/// The files of the machine, by their paths. It does not report what they hold.
+/// The files of the machine, by their paths. It reports which were read and what was given, and not what they hold.
 #[derive(Drop)]
 pub struct FileStore<'a, R: Files> {
     rt: &'a R,
@@ -16,6 +17,10 @@ pub struct FileStore<'a, R: Files> {
     pub taken: u64,
     /// How many reads failed.
     pub faults: u64,
+    /// The reads so far that were answered, which only proofs see.
+    pub reads: ReadLog,
+    /// The files that reads gave, with their bytes, which only proofs see.
+    pub gave: FileLog,
 }
 
 impl<'a, R: Files> FileStore<'a, R> {
@@ -23,11 +28,15 @@ impl<'a, R: Files> FileStore<'a, R> {
     pub fn fresh(rt: &'a R) -> FileStore<'a, R>
         ensures taken { result.taken ≡ 0 }
         ensures faults { result.faults ≡ 0 }
+        ensures reads { result.reads ≡ [] }
+        ensures gave { result.gave ≡ [] }
     {
         FileStore {
             rt,
             taken: 0,
             faults: 0,
+            reads: ReadLog::fresh(),
+            gave: FileLog::fresh(),
         }
     }
 }
@@ -35,7 +44,8 @@ impl<'a, R: Files> FileStore<'a, R> {
 impl<'a, R: Files> Store for FileStore<'a, R> {
     ghost report = { λ store. record {
       held = λ _. None;
-      reads = None;
+      reads = Some store.reads;
+      gave = Some store.gave;
       taken = store.taken;
       faults = store.faults;
     } };
@@ -46,6 +56,7 @@ impl<'a, R: Files> Store for FileStore<'a, R> {
         if wanted_memory(&outcome) {
             return ReadAnswer::Memory;
         }
+        self.reads.add(name, outcome.is_err());
         let count = bytes.len() as u64;
         self.taken = self.taken.saturating_add(count);
         if outcome.is_err() {
@@ -55,7 +66,9 @@ impl<'a, R: Files> Store for FileStore<'a, R> {
         if count > limit {
             return ReadAnswer::TooLong;
         }
-        ReadAnswer::Bytes(Blob::from_vec(bytes))
+        let bytes = Blob::from_vec(bytes);
+        self.gave.add(name, &bytes);
+        ReadAnswer::Bytes(bytes)
     }
 }
 

@@ -1,4 +1,4 @@
-ghost use Rattle.std.specs.Prelude.{◌≡◌, ◌≢◌, ◌^◌, ◌<◌, ◌≤◌, ◌+◌, [], ◌∷◌, ◌++◌, Some, false, true, min, OnOk, OnErr};
+ghost use Rattle.std.specs.Prelude.{◌≡◌, ◌≢◌, ◌^◌, ◌<◌, ◌≤◌, ◌+◌, [], ◌∷◌, ◌++◌, Some, None, false, true, min, OnOk, OnErr};
 ghost use Rattle.std.specs.List.{list_any};
 ghost use Rattle.std.specs.Option.{option_copied, option_map};
 ghost use Rattle.ports.specs.Counts.{greatest};
@@ -63,6 +63,7 @@ impl Store for MemStore {
     ghost report = { λ store. record {
       held = λ name. Some (held_in store.files.items name);
       reads = Some store.reads;
+      gave = None;
       taken = store.taken;
       faults = store.faults;
     } };

@@ -1,6 +1,6 @@
 ghost use Rattle.std.specs.Prelude.{◌≡◌, ◌^◌, ◌<◌, ◌≤◌, ◌++◌};
 ghost use Rattle.std.specs.Option.{option_map};
-ghost use Rattle.ports.specs.Reading.{HasCause, reads_made};
+ghost use Rattle.ports.specs.Reading.{HasCause, given_by, reads_made};
 
 use ev_types::{Blob, Items, Text};
 use std::alloc::Global;
@@ -21,6 +21,8 @@ pub trait Store {
             (report self.old).taken (report self.new).taken result }
         ensures reads { (report self.new).reads
             ≡ option_map (λ made. made ++ reads_made name.now result) (report self.old).reads }
+        ensures gave { (report self.new).gave
+            ≡ option_map (λ gave. gave ++ given_by name.now result) (report self.old).gave }
         ensures taken { (report self.old).taken ≤ (report self.new).taken }
         ensures faults { (report self.old).faults ≤ (report self.new).faults }
         ensures memory { result ≡ ReadAnswer.Memory → self.new ≡ self.old };

@@ -19,7 +19,7 @@ fn main(rt: HostRuntime) -> ExitCode {
     let mut disk = FileDisk::fresh(&rt);
     let mut out = StreamSink::fresh(rt.stdout());
     let mut err = StreamSink::fresh(rt.stderr());
-    let mut patterns = RegexPatterns { refusals: 0 };
+    let mut patterns = RegexPatterns::fresh();
     let mut steps = Steps::fresh(NoLedger);
     let words = arguments(&rt);
     if is_of_client(&words) {

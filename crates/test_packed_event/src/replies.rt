@@ -93,7 +93,7 @@ fn unpacked(alloc: Global, event: &PackedRef<'_>) -> Result<Event, Memory> {
 fn always(alloc: Global) -> Result<Pred, Memory>
     ensures { IfOk result (λ pred. pred ≡ Always) }
 {
-    match Pred::build(alloc, Rule::Always, &mut RegexPatterns { refusals: 0 }) {
+    match Pred::build(alloc, Rule::Always, &mut RegexPatterns::fresh()) {
         Ok(pred) => Ok(pred),
         Err(_) => Err(Memory),
     }

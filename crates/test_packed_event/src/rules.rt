@@ -38,7 +38,7 @@ fn build(alloc: Global, rule: Rule) -> Result<Pred, Memory> {
     if pattern_count(&rule) > 1 {
         return Err(Memory);
     }
-    match Pred::build(alloc, rule, &mut RegexPatterns { refusals: 0 }) {
+    match Pred::build(alloc, rule, &mut RegexPatterns::fresh()) {
         Ok(pred) => Ok(pred),
         Err(_) => Err(Memory),
     }

@@ -57,7 +57,7 @@ fn built(alloc: Global, rule: Rule) -> Result<Pred, Memory> {
     if pattern_count(&rule) > 1 {
         return Err(Memory);
     }
-    match Pred::build(alloc, rule, &mut RegexPatterns { refusals: 0 }) {
+    match Pred::build(alloc, rule, &mut RegexPatterns::fresh()) {
         Ok(pred) => Ok(pred),
         Err(_) => Err(Memory),
     }
@@ -66,7 +66,7 @@ fn built(alloc: Global, rule: Rule) -> Result<Pred, Memory> {
 /// The plan of the configuration.
 pub(crate) fn plan(alloc: Global, config: &str) -> Result<ReadyPlan, Memory> {
     match read_config(alloc, config.as_bytes()) {
-        Ok(config) => match build_plan(alloc, config.plan, &mut RegexPatterns { refusals: 0 }) {
+        Ok(config) => match build_plan(alloc, config.plan, &mut RegexPatterns::fresh()) {
             Ok(plan) => Ok(plan),
             Err(_) => Err(Memory),
         },

@@ -84,7 +84,7 @@ fn is_row(alloc: Global, row: &Row) -> bool {
         Ok(tests) => match tests.as_slice().first() {
             Some(test) => match read_config(alloc, row.0.as_bytes()) {
                 Ok(config) => {
-                    let mut patterns = RegexPatterns { refusals: 0 };
+                    let mut patterns = RegexPatterns::fresh();
                     let mut steps = Steps::fresh(NoLedger);
                     is_verdict(
                         run_test(alloc, test, config, &mut patterns, &mut steps),

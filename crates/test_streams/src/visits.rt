@@ -193,7 +193,7 @@ fn are_measured(alloc: Global, index: &mut LiveIndex) -> bool {
 fn always(alloc: Global) -> Result<Pred, Memory>
     ensures { IfOk result (λ pred. pred ≡ Always) }
 {
-    match Pred::build(alloc, Rule::Always, &mut RegexPatterns { refusals: 0 }) {
+    match Pred::build(alloc, Rule::Always, &mut RegexPatterns::fresh()) {
         Ok(pred) => Ok(pred),
         Err(_) => Err(Memory),
     }

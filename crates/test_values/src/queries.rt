@@ -62,7 +62,7 @@ pub fn holds_answer(
 /// The rule that the text states, built.
 fn read_pred(alloc: Global, text: &[u8]) -> Result<Pred, RowFault> {
     let rule = rule_of(alloc, text)?;
-    let mut patterns = RegexPatterns { refusals: 0 };
+    let mut patterns = RegexPatterns::fresh();
     readable(build(alloc, rule, &mut patterns))
 }
 
@@ -101,7 +101,8 @@ fn put_built(line: &mut String, built: &Result<Pred, BuildFault>) -> Result<(), 
 
 /// Appends what building the rule ends with, where the number of refusals is already the greatest.
 fn build_plainly(alloc: Global, rule: Rule, line: &mut String) -> Result<(), RowFault> {
-    let mut patterns = RegexPatterns { refusals: u64::MAX };
+    let mut patterns = RegexPatterns::fresh();
+    patterns.refusals = u64::MAX;
     let built = build(alloc, rule, &mut patterns);
     put_plain(line, &built, patterns.refusals)
 }
