@@ -1,13 +1,13 @@
 -- What is read as a stream is one of the grammar.
-use Rattle.std.proofs.Common.{◌≡◌, ℕ, zero, suc, Bool, true, false, ◌||◌, codes, List, [], ◌∷◌, drop, Option, Some}
+use Rattle.std.proofs.Common.{◌≡◌, ℕ, zero, suc, Bool, true, false, ◌||◌, codes, List, drop, Option, Some}
 use Rattle.std.proofs.Common.{None, Ok, refl, ap, sym, subst, ◌∙◌}
 use Rattle.std.proofs.lemmas.Slice.Eq.{bytes_eq-Decides}
 use Rattle.std.specs.Str.{bytes_eq}
 use Rattle.sexp_read.specs.declared.piece.Atom.TheVariants as atom
 use Rattle.sexp_read.specs.declared.piece.Bracket.TheVariants.{Round, Square, Curly}
 use Rattle.sexp_read.specs.Tree.{FormTree, FormTrees, Single, Group, none, also}
-use Rattle.sexp_read.specs.Written.{BareTree, BareTrees, no_trees, and_trees, bare_tree, bare_trees, listed}
-use Rattle.stream_plan.specs.Kinds.{may_have_children, is_by}
+use Rattle.sexp_read.specs.Written.{BareTree, BareTrees, no_trees, and_trees, bare_tree, bare_trees}
+use Rattle.stream_plan.specs.Kinds.{may_have_children}
 use Rattle.stream_plan.specs.Tree.{KindTree, StreamTree, stream, StreamTrees}
 use Rattle.stream_plan.specs.Tree as plan
 use Rattle.config_terms.specs.declared.binding.Bound.{Bound}
@@ -20,18 +20,19 @@ use Rattle.config_terms.specs.Words.{stream_text, stream_word}
 use Rattle.config_terms.specs.Arguments.{Env, bound_value}
 use Rattle.config_terms.specs.Grammar.{symbol, worded}
 use Rattle.config_terms.proofs.Outcomes.{OkGood, SomeGood, bind_good, weaker, ok_if, ok_read}
-use Rattle.config_streams.specs.Kinds.{kind_of, leads}
 use Rattle.config_streams.specs.Sources.{SourceTree}
-use Rattle.config_streams.specs.Streams as read
+use Rattle.config_streams.specs.Streams as read_
 use Rattle.config_streams.specs.Streams.{Located, Below, nothing, Part, One, Rest, with_child, with_part, next_place}
 use Rattle.config_streams.specs.Streams.{Readings, symbol_by, followed, else_part, is_else, is_where, is_where_in}
 use Rattle.config_streams.specs.Streams.{is_by_in, stream_of, part_at, parts_in, all_read}
-use Rattle.config_streams.specs.Grammar.{and_then, IsKind, IsStream, index_word, index_name, index_list, notice}
-use Rattle.config_streams.specs.Grammar.{passing, where_else, AreStreams, no_streams, more_streams, with_streams}
-use Rattle.config_streams.specs.Grammar.{AreThose, OnlyStreamsAreRead}
-use Rattle.config_streams.proofs.KindsRead.{word_read, kind_passes, kind_forks}
-use Rattle.config_streams.proofs.KindsOnly.{Starts, start_index, start_notice, start_kind, Known, Divides, kind_means}
-use Rattle.config_streams.proofs.KindsOnly.{Spells, word_spells}
+use Rattle.config_streams.specs.Table.{row_of, read, Matches}
+use Rattle.config_streams.specs.Streams.{is_by}
+use Rattle.stream_plan.specs.Tree.{KindTree}
+use Rattle.config_streams.specs.Grammar.{and_then, else_row, IsStream, index_word, index_name, ending, passing}
+use Rattle.config_streams.specs.Grammar.{where_else, AreStreams, no_streams, more_streams, with_streams, AreThose}
+use Rattle.config_streams.specs.Grammar.{OnlyStreamsAreRead}
+use Rattle.config_streams.proofs.TableLaws.{RowMatches, row_matches}
+use Rattle.config_streams.proofs.WordLaws.{Spells, word_spells}
 use Rattle.config_streams.proofs.GrammarRead.{with_none, with_more}
 use Rattle.config_streams.proofs.StreamLaws.{parts_later}
 
@@ -65,7 +66,7 @@ later_mean may_else in_fork env (suc n) (also f forms) all = later_mean may_else
 -- how the forms end after the streams
 data Ending (may_else in_fork : Bool) (env : Env) (row front : BareTrees) (before below : Below) : Type 0 where
   plain : row ≡ front → below.otherwise ≡ before.otherwise → Ending may_else in_fork env row front before below
-  divided : (rest : BareTrees) → may_else ≡ true → row ≡ and_then front (listed (worded (codes "else") rest ∷ []))
+  divided : (rest : BareTrees) → may_else ≡ true → row ≡ and_then front (else_row rest)
       → AreStreams in_fork env rest below.otherwise.streams → Ending may_else in_fork env row front before below
 
 record Row (may_else in_fork : Bool) (env : Env) (row : BareTrees) (before below : Below) : Type 0 where
@@ -160,98 +161,42 @@ later_rows may_else in_fork env n forms all =
 
 -- ---- streams that have others below them
 
-abbrev Is : Bool → Env → List ℕ → BareTrees → StreamTree → Type 0
-Is in_fork env name row one = IsStream in_fork env (worded name row) one
-
 true_false : {A : Type 0} → false ≡ true → A
 true_false e = cc
 
-where_is : (from : StreamWord) → is_where from ≡ true → stream_text from ≡ codes "where"
+where_is : (from : StreamWord) → is_where from ≡ true → from ≡ word.Where
 where_is word.Where e = refl
 where_is from e = cc
 
+abbrev Is : Bool → Env → StreamWord → BareTrees → StreamTree → Type 0
+Is in_fork env from row one = IsStream in_fork env (worded (stream_text from) row) one
+
 -- with the streams of an `else`
-divided_is : (in_fork : Bool) (env : Env) (from : StreamWord) (own front rest row : BareTrees) (one : KindTree)
-    (children otherwise : StreamTrees)
-    → is_where from ≡ true → Divides env own one → AreStreams (is_by one || in_fork) env front children
-    → AreStreams (is_by one || in_fork) env rest otherwise
-    → row ≡ and_then own (and_then front (listed (worded (codes "else") rest ∷ [])))
-    → Is in_fork env (stream_text from) row (stream one children otherwise)
-divided_is in_fork env from own front rest row one children otherwise is parts are others at =
-    let same : (is_by one || in_fork) ≡ in_fork = ap (λ (k : KindTree). is_by k || in_fork) parts.one_is in
-    let whole =
-    where_else {in_fork = in_fork} {env = env} {p = parts.p} {rule = parts.rule} {forms = front} {rest = rest}
-    {children = children} {otherwise = otherwise} parts.is
-    (subst (λ (b : Bool). AreStreams b env front children) same are)
-    (subst (λ (b : Bool). AreStreams b env rest otherwise) same others) in
-    let tail = and_then front (listed (worded (codes "else") rest ∷ [])) in
-    let named =
-    subst (λ (name : List ℕ). Is in_fork env name (and_trees parts.p tail)
-    (stream (plan.Where parts.rule) children otherwise))
-    (sym (where_is from is)) whole in
-    let kinded =
-    subst (λ (k : KindTree). Is in_fork env (stream_text from) (and_trees parts.p tail) (stream k children otherwise))
-    (sym parts.one_is) named in
-    subst (λ (r : BareTrees). Is in_fork env (stream_text from) r (stream one children otherwise))
-    (sym (at ∙ ap (λ (o : BareTrees). and_then o tail) parts.own_is)) kinded
+divided_is : (in_fork : Bool) (env : Env) (from : StreamWord) (row front rest : BareTrees) (one : KindTree)
+    (children otherwise : StreamTrees) → from ≡ word.Where
+    → Matches env (row_of in_fork from) row one (and_then front (else_row rest)) → may_have_children one ≡ true
+    → AreStreams (is_by from || in_fork) env front children → AreStreams (is_by from || in_fork) env rest otherwise
+    → Is in_fork env from row (stream one children otherwise)
+divided_is in_fork env from row front rest one children otherwise is =
+    subst (λ (w : StreamWord). Matches env (row_of in_fork w) row one (and_then front (else_row rest))
+    → may_have_children one ≡ true → AreStreams (is_by w || in_fork) env front children
+    → AreStreams (is_by w || in_fork) env rest otherwise → Is in_fork env w row (stream one children otherwise))
+    (sym is) (λ matched passes are others. where_else matched passes are others)
 
-row_is : (in_fork : Bool) (env : Env) (from : StreamWord) (own row later_row : BareTrees) (one : KindTree)
-    (below : Below)
-    → IsKind in_fork env (stream_text from) own one → (is_where from ≡ true → Divides env own one)
-    → row ≡ and_then own later_row
-    → (front : BareTrees) → AreStreams (is_by one || in_fork) env front below.children.streams
-    → Ending (is_where from) (is_by one || in_fork) env later_row front nothing below
-    → Is in_fork env (stream_text from) row (stream one below.children.streams below.otherwise.streams)
-row_is in_fork env from own row later_row one below is divides at front are (plain same nowhere) =
-    let whole =
-    passing is
-    (subst (λ (r : BareTrees). AreStreams (is_by one || in_fork) env r below.children.streams) (sym same) are) in
-    let here =
-    subst (λ (r : BareTrees). Is in_fork env (stream_text from) r (stream one below.children.streams plan.none))
-    (sym at)
-    whole in
-    subst (λ (located : Located). Is in_fork env (stream_text from) row
-    (stream one below.children.streams located.streams))
-    (sym nowhere) here
-row_is in_fork env from own row later_row one below is divides at front are (divided rest allowed same others) =
-    divided_is in_fork env from own front rest row one below.children.streams below.otherwise.streams allowed
-    (divides allowed)
-    are others (at ∙ ap (and_then own) same)
-
-kind_starts : (in_fork : Bool) (env : Env) (name : List ℕ) (own : BareTrees) (one : KindTree)
-    → Starts in_fork env name own one
-    → may_have_children one ≡ true → IsKind in_fork env name own one
-kind_starts in_fork env _ _ _ start_index passes = true_false passes
-kind_starts in_fork env _ _ _ (start_notice is) passes = true_false passes
-kind_starts in_fork env name own one (start_kind is) passes = is
-
-parent_is : (in_fork : Bool) (env : Env) (from : StreamWord) (own row later_row : BareTrees) (one : KindTree)
-    → IsKind in_fork env (stream_text from) own one → (is_where from ≡ true → Divides env own one)
-    → row ≡ and_then own later_row
-    → (below : Below) → Row (is_where from) (is_by_in (Some from) || in_fork) env later_row nothing below
-    → Is in_fork env (stream_text from) row (stream one below.children.streams below.otherwise.streams)
-parent_is in_fork env from own row later_row one is divides at below found =
-    let forked : is_by_in (Some from) ≡ is_by one =
-    ap is_by_in (sym (word_read from)) ∙ kind_forks in_fork env (stream_text from) own one is in
-    let known : Row (is_where from) (is_by one || in_fork) env later_row nothing below =
-    subst (λ (t : Bool). Row (is_where from) (t || in_fork) env later_row nothing below) forked found in
-    row_is in_fork env from own row later_row one below is divides at known.front
-    (subst (λ (streams : StreamTrees). AreStreams (is_by one || in_fork) env known.front streams) (sym known.children)
-    known.are) known.ending
-
--- a stream that no other follows
-childless_is : (in_fork : Bool) (env : Env) (name : List ℕ) (own row : BareTrees) (one : KindTree)
-    → Starts in_fork env name own one
-    → may_have_children one ≡ false → row ≡ own → Is in_fork env name row (stream one plan.none plan.none)
-childless_is in_fork env _ _ row _ start_index ends at =
-    subst (λ (r : BareTrees). Is in_fork env (codes "index") r (stream plan.Index plan.none plan.none)) (sym at)
-    index_list
-childless_is in_fork env _ _ row _ (start_notice {x = x} {name = name} is) ends at =
-    subst (λ (r : BareTrees). Is in_fork env (codes "notice") r (stream (plan.Notice name) plan.none plan.none))
-    (sym at)
-    (notice is)
-childless_is in_fork env name own row one (start_kind is) ends at =
-    true_false (sym ends ∙ kind_passes in_fork env name own one is)
+row_is : (in_fork : Bool) (env : Env) (from : StreamWord) (row later_row front : BareTrees) (one : KindTree)
+    (below : Below) → is_else from ≡ false → Matches env (row_of in_fork from) row one later_row
+    → may_have_children one ≡ true → AreStreams (is_by from || in_fork) env front below.children.streams
+    → Ending (is_where from) (is_by from || in_fork) env later_row front nothing below
+    → Is in_fork env from row (stream one below.children.streams below.otherwise.streams)
+row_is in_fork env from row later_row front one below not_else matched passes are (plain same nowhere) =
+    subst (λ (located : Located). Is in_fork env from row (stream one below.children.streams located.streams))
+    (sym nowhere)
+    (passing from not_else matched passes
+    (subst (λ (r : BareTrees). AreStreams (is_by from || in_fork) env r below.children.streams) (sym same) are))
+row_is in_fork env from row later_row front one below not_else matched passes are (divided rest allowed same others) =
+    divided_is in_fork env from row front rest one below.children.streams below.otherwise.streams
+    (where_is from allowed) (subst (λ (r : BareTrees). Matches env (row_of in_fork from) row one r) same matched) passes
+    are others
 
 -- no forms are left
 abbrev NoMore : ℕ → FormTrees → Unit {0} → Type 0
@@ -267,31 +212,30 @@ at_most_means : (n : ℕ) (forms : FormTrees) → OkGood (NoMore n forms) (at_mo
 unfolding at_most
 at_most_means n forms = absent_means n forms
 
-then_none : (row : BareTrees) → and_then row no_trees ≡ row
-then_none no_trees = refl
-then_none (and_trees form row) = ap (and_trees form) (then_none row)
-
-followed_means : (may_else in_fork : Bool) (env : Env) (from : StreamWord) (start : ℕ) (forms : FormTrees)
-    (one : KindTree)
-    → AllMean (is_where from) (is_by_in (Some from) || in_fork) env forms → Known in_fork env from forms one
+followed_means : (in_fork : Bool) (env : Env) (from : StreamWord) (start : ℕ) (forms : FormTrees) (one : KindTree)
+    (own : ℕ) → is_else from ≡ false
+    → Matches env (row_of in_fork from) (bare_trees forms) one (bare_trees (later own forms))
+    → AllMean (is_where from) (is_by from || in_fork) env forms → (may_else : Bool)
     → OkGood (PartIs may_else in_fork env (worded (stream_text from) (bare_trees forms)))
-    (followed one start (leads env from forms) forms
-    (parts_in (is_where from) (is_by_in (Some from) || in_fork) env forms))
-followed_means may_else in_fork env from start forms one all known =
-    let n = leads env from forms in
-    let b = is_by_in (Some from) || in_fork in
+    (followed one start own forms (parts_in (is_where from) (is_by from || in_fork) env forms))
+followed_means in_fork env from start forms one own not_else matched all may_else =
+    let m = is_where from in
+    let b = is_by from || in_fork in
     let Q = PartIs may_else in_fork env (worded (stream_text from) (bare_trees forms)) in
     ok_if Q (may_have_children one) _ _
-    (λ passes. bind_good (Row (is_where from) b env (bare_trees (later n forms)) nothing) Q
-    (all_read nothing (drop n (parts_in (is_where from) (is_by_in (Some from) || in_fork) env forms)))
-    (λ below. Ok (stream_of one start below))
-    (later_rows (is_where from) b env n forms all)
-    (λ below row. parent_is in_fork env from known.own (bare_trees forms) (bare_trees (later n forms)) one
-    (kind_starts in_fork env (stream_text from) known.own one known.is passes) known.divides known.are below row))
-    (λ ends.
-    bind_good (NoMore n forms) Q (at_most n forms) (λ over. Ok (stream_of one start nothing)) (at_most_means n forms)
-    (λ over over_is. childless_is in_fork env (stream_text from) known.own (bare_trees forms) one known.is ends
-    (known.are ∙ ap (λ (fs : FormTrees). and_then known.own (bare_trees fs)) over_is ∙ then_none known.own)))
+    (λ passes. bind_good (Row m b env (bare_trees (later own forms)) nothing) Q
+    (all_read nothing (drop own (parts_in m b env forms))) (λ below. Ok (stream_of one start below))
+    (later_rows m b env own forms all)
+    (λ below known. row_is in_fork env from (bare_trees forms) (bare_trees (later own forms)) known.front one below
+    not_else matched passes
+    (subst (λ (streams : StreamTrees). AreStreams b env known.front streams) (sym known.children) known.are)
+    known.ending))
+    (λ ends. bind_good (NoMore own forms) Q (at_most own forms) (λ over. Ok (stream_of one start nothing))
+    (at_most_means own forms)
+    (λ over over_is. ending from not_else
+    (subst (λ (fs : FormTrees). Matches env (row_of in_fork from) (bare_trees forms) one (bare_trees fs)) over_is
+    matched)
+    ends))
 
 -- ---- `else`
 
@@ -299,10 +243,10 @@ else_is : (from : StreamWord) → is_else from ≡ true → from ≡ word.Else
 else_is word.Else e = refl
 else_is from e = cc
 
-else_row : (may_else in_fork : Bool) (env : Env) (row : BareTrees) (below : Below) → may_else ≡ true
+else_is_part : (may_else in_fork : Bool) (env : Env) (row : BareTrees) (below : Below) → may_else ≡ true
     → (known : Row false in_fork env row nothing below) → Ending false in_fork env row known.front nothing below
     → Elsewhere may_else in_fork env (worded (codes "else") row) below.children.streams
-else_row may_else in_fork env row below allowed known (plain same nowhere) =
+else_is_part may_else in_fork env row below allowed known (plain same nowhere) =
     record {
       allowed = allowed;
       rest = row;
@@ -312,7 +256,7 @@ else_row may_else in_fork env row below allowed known (plain same nowhere) =
           (subst (λ (streams : StreamTrees). AreStreams in_fork env known.front streams) (sym known.children)
           known.are);
     }
-else_row may_else in_fork env row below allowed known (divided rest other same others) = true_false other
+else_is_part may_else in_fork env row below allowed known (divided rest other same others) = true_false other
 
 else_means : (may_else in_fork : Bool) (env : Env) (start : ℕ) (forms : FormTrees) → AllMean false in_fork env forms
     → OkGood (PartIs may_else in_fork env (worded (codes "else") (bare_trees forms)))
@@ -323,7 +267,7 @@ else_means may_else in_fork env start forms all =
     (λ allowed. bind_good (Row false in_fork env (bare_trees forms) nothing) Q
     (all_read nothing (parts_in false in_fork env forms))
     (λ below. Ok (Rest below.children)) (rows_mean false in_fork env forms all nothing)
-    (λ below known. else_row may_else in_fork env (bare_trees forms) below allowed known known.ending))
+    (λ below known. else_is_part may_else in_fork env (bare_trees forms) below allowed known known.ending))
     (λ _. tt)
 
 -- ---- a list that begins with a word
@@ -332,35 +276,36 @@ abbrev WordIs : Bool → Bool → Env → FormTrees → StreamWord → Part → 
 WordIs may_else in_fork env forms from = PartIs may_else in_fork env (worded (stream_text from) (bare_trees forms))
 
 word_means : (may_else in_fork : Bool) (env : Env) (from : StreamWord) (start : ℕ) (forms : FormTrees)
-    → AllMean (is_where from) (is_by_in (Some from) || in_fork) env forms
+    → AllMean (is_where from) (is_by from || in_fork) env forms
     → OkGood (WordIs may_else in_fork env forms from)
-    (read.worded may_else in_fork env (Some from) start forms
-    (parts_in (is_where from) (is_by_in (Some from) || in_fork) env forms))
-unfolding read.worded
+    (read_.worded may_else in_fork env (Some from) start forms
+    (parts_in (is_where from) (is_by from || in_fork) env forms))
+unfolding read_.worded
 word_means may_else in_fork env from start forms all =
     let Q = WordIs may_else in_fork env forms from in
     ok_if Q (is_else from) _ _
-    (λ is. subst (λ (w : StreamWord). AllMean (is_where w) (is_by_in (Some w) || in_fork) env forms
+    (λ is. subst (λ (w : StreamWord). AllMean (is_where w) (is_by w || in_fork) env forms
     → OkGood (WordIs may_else in_fork env forms w)
-    (else_part may_else start (parts_in (is_where w) (is_by_in (Some w) || in_fork) env forms)))
+    (else_part may_else start (parts_in (is_where w) (is_by w || in_fork) env forms)))
     (sym (else_is from is)) (else_means may_else in_fork env start forms) all)
-    (λ _. bind_good (Known in_fork env from forms) Q (kind_of in_fork env from start forms) _
-    (kind_means in_fork env from start forms)
-    (λ one known. followed_means may_else in_fork env from start forms one all known))
+    (λ not_else. bind_good (RowMatches env (row_of in_fork from) 0 forms) Q
+    (read (row_of in_fork from) env start 0 forms) _ (row_matches (row_of in_fork from) env start 0 forms)
+    (λ found matched.
+    followed_means in_fork env from start forms found.0 found.1 not_else matched all may_else))
 
 call_means : (may_else in_fork : Bool) (env : Env) (name : List ℕ) (start : ℕ) (forms : FormTrees)
     (from : Option StreamWord)
     → SomeGood (Spells name) from → AllMean (is_where_in from) (is_by_in from || in_fork) env forms
     → OkGood (PartIs may_else in_fork env (worded name (bare_trees forms)))
-    (read.worded may_else in_fork env from start forms
+    (read_.worded may_else in_fork env from start forms
     (parts_in (is_where_in from) (is_by_in from || in_fork) env forms))
-unfolding read.worded
+unfolding read_.worded
 call_means may_else in_fork env name start forms None spells all = tt
 call_means may_else in_fork env name start forms (Some from) spells all =
     subst
     (λ (n : List ℕ). OkGood (PartIs may_else in_fork env (worded n (bare_trees forms)))
-    (read.worded may_else in_fork env (Some from) start forms
-    (parts_in (is_where from) (is_by_in (Some from) || in_fork) env forms)))
+    (read_.worded may_else in_fork env (Some from) start forms
+    (parts_in (is_where from) (is_by from || in_fork) env forms)))
     (sym spells) (word_means may_else in_fork env from start forms all)
 
 symbol_means : (may_else in_fork : Bool) (env : Env) (name : List ℕ) (start : ℕ) (held : Option Bound)

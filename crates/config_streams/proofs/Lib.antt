@@ -1,7 +1,9 @@
-pub mod KindLaws
+pub mod ShapeLaws
+pub mod TableLaws
+pub mod CodeLaws
 pub mod StreamLaws
-pub mod KindsRead
-pub mod KindsOnly
+pub mod WordLaws
 pub mod GrammarRead
 pub mod GrammarOnly
 pub mod GrammarLaws
+pub mod YieldLaws

@@ -1,4 +1,6 @@
-pub mod Kinds
+pub mod Shapes
+pub mod Table
+pub mod Given
 pub mod Sources
 pub mod Streams
 pub mod Made

@@ -18,7 +18,7 @@ use Rattle.config_terms.specs.Words.{stream_text, stream_word}
 use Rattle.config_terms.specs.Arguments.{Env, bound_value}
 use Rattle.config_streams.specs.Sources.{SourceTree, SourceTrees, source, with_source}
 use Rattle.config_streams.specs.Sources as sources
-use Rattle.config_streams.specs.Kinds.{kind_of, leads}
+use Rattle.config_streams.specs.Table.{row_of, read}
 
 -- ---- what a form is in the place of a stream
 
@@ -136,7 +136,7 @@ unfoldable pub worded : Bool → Bool → Env → Option StreamWord → ℕ → 
 worded may_else in_fork env None start forms readings = Err (start, why.Form)
 worded may_else in_fork env (Some one) start forms readings =
     if is_else one then else_part may_else start readings
-    else (kind_of in_fork env one start forms >>= λ kind. followed kind start (leads env one forms) forms readings)
+    else (read (row_of in_fork one) env start 0 forms >>= λ found. followed found.0 start found.1 forms readings)
 
 -- what a form is in the place of a stream, and the same of each of some forms
 unfoldable mutual

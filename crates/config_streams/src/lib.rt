@@ -1,6 +1,7 @@
 //! The streams of configurations: their kinds, the streams below them, and the places of their forms.
 #![tactic(auto)]
 
+mod given;
 mod kinds;
 mod law;
 mod source;

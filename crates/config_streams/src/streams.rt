@@ -10,7 +10,8 @@ ghost use Rattle.config_terms.specs.Arguments.{bound_value};
 ghost use Rattle.config_streams.specs.Streams.{nothing, nowhere, stream_of as stream_made, with_part, all_read, is_where_in, is_by_in, with_one, is_else as is_else_of, symbol_by, followed as followed_by, worded, else_part as else_part_of, part_at as part_from, parts_in as readings_of};
 ghost use Rattle.config_streams.specs.Made.{located_in, below_in, part_in, source_tree};
 
-use crate::kinds::{kind_of, leads};
+use crate::given::Given;
+use crate::kinds::kind_of;
 use crate::source::{Source, Sources};
 use config_terms::{
     Binding, Bound, ConfigFault, ConfigWhy, StreamWord, View, at_most, first, is, later,
@@ -211,8 +212,8 @@ fn call_part(
     if is_else(word) {
         return else_part(alloc, env, position.may_else, below, start, forms);
     }
-    let kind = kind_of(alloc, env, word, position.in_fork, start, forms)?;
-    let own = leads(env, word, forms);
+    let given = Given { env, start, forms };
+    let (kind, own) = kind_of(alloc, word, position.in_fork, given)?;
     followed(alloc, env, kind, below, start, own, forms)
 }
 

@@ -1,6 +1,6 @@
 -- A plan that is read has no more patterns than its forms have brackets, and those are no more than the bytes of the
 -- text.
-use Rattle.std.proofs.Common.{◌≡◌, ℕ, ◌+◌, ◌≤◌, Bool, false, ◌||◌, codes, List, [], ◌∷◌, ◌++◌, length, refl, ap, arith}
+use Rattle.std.proofs.Common.{◌≡◌, ℕ, ◌+◌, ◌≤◌, Bool, false, ◌||◌, List, [], ◌∷◌, ◌++◌, length, refl, ap, arith}
 use Rattle.std.proofs.Common.{length-append}
 use Rattle.pred_eval.specs.Tree.{Tree, Trees, Tagged}
 use Rattle.pred_eval.specs.Tree as pred
@@ -11,18 +11,22 @@ use Rattle.sexp_read.specs.Tokens.{Closed}
 use Rattle.sexp_read.specs.Tree.{FormTree, FormTrees, Single, Group}
 use Rattle.sexp_read.specs.Tree as tree
 use Rattle.sexp_read.specs.Written.{BareTree, BareTrees, Leaf, Branch, no_trees, and_trees, bare_tree, bare_trees}
-use Rattle.sexp_read.specs.Written.{listed}
-use Rattle.stream_plan.specs.Kinds.{is_by}
 use Rattle.stream_plan.specs.Ready.{kind_patterns, stream_patterns, plan_patterns}
-use Rattle.stream_plan.specs.Tree.{KindTree, StreamTree, stream, StreamTrees, none, also}
+use Rattle.stream_plan.specs.Tree.{KindTree, StreamTree, StreamTrees, none, also}
 use Rattle.config_terms.specs.Arguments.{Env}
 use Rattle.config_terms.specs.Grammar.{worded, all_of, any_of, IsPredicate, always, never, never_nil, all_parts}
 use Rattle.config_terms.specs.Grammar.{any_part, negated, equal, unequal, compared, like, holds, found, ArePredicates}
 use Rattle.config_terms.specs.Grammar.{no_parts, more_parts}
 use Rattle.config_terms.specs.Grammar as term
-use Rattle.config_streams.specs.Grammar.{each_tag, and_then, IsKind, where_, tagged, sdo, IsStream, index_word}
-use Rattle.config_streams.specs.Grammar.{index_name, index_list, notice, passing, where_else, AreStreams, no_streams}
-use Rattle.config_streams.specs.Grammar.{more_streams, with_streams}
+use Rattle.config_terms.specs.declared.word.StreamWord.{StreamWord}
+use Rattle.config_terms.specs.declared.word.StreamWord.TheVariants as word
+use Rattle.config_streams.specs.Shapes.{Shape, ValueOf, IsA}
+use Rattle.config_streams.specs.Shapes as shape
+use Rattle.config_streams.specs.Table.{Row, gives, takes, next_is, row_of, tag_rules, all_tagged, Matches, made, argued}
+use Rattle.config_streams.specs.Table.{there, absent}
+use Rattle.config_streams.specs.Streams.{is_by}
+use Rattle.config_streams.specs.Grammar.{and_then, else_row, IsStream, index_word, index_name, ending, passing}
+use Rattle.config_streams.specs.Grammar.{where_else, AreStreams, no_streams, more_streams, with_streams}
 use Rattle.sexp_config.specs.declared.config.Config.{Config}
 use Rattle.sexp_config.specs.Config.{IsConfigOf}
 use Rattle.sexp_config.specs.Grammar.{Said, IsTop, a_server, an_expiry, some_streams, with_names, AreTops, no_tops}
@@ -99,20 +103,71 @@ mutual
         length-append (searches one) (searches_of rules),
       )
 
-tags_none : (tags : List (List ℕ)) → length (searches_of (each_tag tags)) ≡ 0
+tags_none : (tags : List (List ℕ)) → length (searches_of (tag_rules tags)) ≡ 0
 tags_none [] = refl
 tags_none (tag ∷ tags) = tags_none tags
 
+all_tags_none : (tags : List (List ℕ)) → length (searches (all_tagged tags)) ≡ 0
+all_tags_none [] = refl
+all_tags_none (tag ∷ []) = refl
+all_tags_none (tag ∷ second ∷ tags) = tags_none tags
+
 -- ---- streams
 
-kind_few : (in_fork : Bool) (env : Env) (name : List ℕ) (own : BareTrees) (one : KindTree)
-    → IsKind in_fork env name own one
-    → length (kind_patterns one) ≤ brackets own
-kind_few in_fork env _ _ _ (where_ {p = p} {rule = one} is) = omega (arith, rule_few env p one is)
-kind_few in_fork env _ _ _ (tagged {tag = tag} {tags = tags} are) =
-    omega (arith, all_add (Tagged tag) (each_tag tags), tags_none tags)
-kind_few in_fork env _ _ _ sdo = omega arith
-kind_few in_fork env _ _ _ is = omega arith
+-- how many expressions a value of a shape has
+abbrev cost : (shape : Shape) → ValueOf shape → ℕ
+cost shape.Rule rule = length (searches rule)
+cost _ value = 0
+
+cost_few : (shape : Shape) (env : Env) (x : BareTree) (value : ValueOf shape) → IsA shape env x value
+    → cost shape value ≤ tree_brackets x
+cost_few shape.Rule env x value is = rule_few env x value is
+cost_few shape env x value is = omega arith
+
+-- a kind has no more expressions than its arguments
+abbrev Costs : Row → ℕ → Type 0
+Costs (gives one) n = length (kind_patterns one) ≤ n
+Costs (takes shape row) n = (value : ValueOf shape) → Costs (row value) (n + cost shape value)
+Costs (next_is look row other) n = Costs row n × Costs other n
+
+row_few : (env : Env) (row : Row) (forms : BareTrees) (one : KindTree) (rest : BareTrees)
+    → Matches env row forms one rest → (n : ℕ) → Costs row n
+    → length (kind_patterns one) + brackets rest ≤ n + brackets forms
+row_few env _ _ one rest made n costs = omega (arith, costs)
+row_few env _ _ one rest (argued {shape = shape} {row = row} {x = x} {forms = forms} value is matched) n costs =
+    omega (
+      arith,
+      cost_few shape env x value is,
+      row_few env (row value) forms one rest matched (n + cost shape value) (costs value),
+    )
+row_few env _ forms one rest (there {row = row} is matched) n costs = row_few env row forms one rest matched n costs.0
+row_few env _ forms one rest (absent {other = other} is matched) n costs =
+    row_few env other forms one rest matched n costs.1
+
+rows_few : (in_fork : Bool) (from : StreamWord) → Costs (row_of in_fork from) 0
+unfolding row_of
+rows_few in_fork word.Index = omega arith
+rows_few in_fork word.Sdo = omega arith
+rows_few in_fork word.Else = omega arith
+rows_few in_fork word.Where = λ rule. omega arith
+rows_few in_fork word.With = (λ sets. omega arith, λ field set. omega arith)
+rows_few in_fork word.Default = (λ sets. omega arith, λ field set. omega arith)
+rows_few in_fork word.By = λ fields. (λ secs. omega arith, omega arith)
+rows_few in_fork word.Changed = λ field. (λ held. omega arith, omega arith)
+rows_few in_fork word.Coalesce = (λ secs. omega arith, omega arith)
+rows_few in_fork word.Runs = λ a b. omega arith
+rows_few in_fork word.Throttle = λ a b. omega arith
+rows_few in_fork word.Rollup = λ a b. omega arith
+rows_few in_fork word.Batch = λ a b. omega arith
+rows_few in_fork word.Stable = λ a b. omega arith
+rows_few in_fork word.Expired = omega arith
+rows_few in_fork word.Tagged = λ tags. omega (arith, all_tags_none tags)
+rows_few in_fork from = λ a. omega arith
+
+kind_few : (in_fork : Bool) (env : Env) (from : StreamWord) (row : BareTrees) (one : KindTree) (rest : BareTrees)
+    → Matches env (row_of in_fork from) row one rest → length (kind_patterns one) + brackets rest ≤ brackets row
+kind_few in_fork env from row one rest matched =
+    omega (arith, row_few env (row_of in_fork from) row one rest matched 0 (rows_few in_fork from))
 
 joined_add : (streams others : StreamTrees)
     → length (plan_patterns (with_streams streams others))
@@ -134,28 +189,28 @@ mutual
       → length (stream_patterns one) ≤ tree_brackets form
   stream_few in_fork env _ _ (index_word is) = omega arith
   stream_few in_fork env _ _ (index_name is) = omega arith
-  stream_few in_fork env _ _ index_list = omega arith
-  stream_few in_fork env _ _ (notice is) = omega arith
+  stream_few in_fork env _ _ (ending {row = row} {one = one} from not_else matched ends) =
+      omega (arith, length-append (kind_patterns one) [], kind_few in_fork env from row one no_trees matched)
   stream_few in_fork env _ _
-      (passing {word = name} {arguments = own} {forms = forms} {one = one} {children = children} is are) =
+      (passing {row = row} {forms = forms} {one = one} {children = children} from not_else matched passes are) =
       omega (
         arith,
         length-append (kind_patterns one) (plan_patterns children ++ []),
         length-append (plan_patterns children) [],
-        kind_few in_fork env name own one is,
-        streams_few (is_by one || in_fork) env forms children are,
-        brackets_add own forms,
+        kind_few in_fork env from row one forms matched,
+        streams_few (is_by from || in_fork) env forms children are,
       )
-  stream_few in_fork env _ _ (where_else {p = p} {rule = one} {forms = forms} {rest = rest} {children = children}
-      {otherwise = otherwise} is are others) =
+  stream_few in_fork env _ _
+      (where_else {row = row} {forms = forms} {rest = rest} {one = one} {children = children} {otherwise = otherwise}
+      matched passes are others) =
       omega (
         arith,
-        length-append (searches one) (plan_patterns children ++ plan_patterns otherwise),
+        length-append (kind_patterns one) (plan_patterns children ++ plan_patterns otherwise),
         length-append (plan_patterns children) (plan_patterns otherwise),
-        rule_few env p one is,
+        kind_few in_fork env word.Where row one (and_then forms (else_row rest)) matched,
         streams_few in_fork env forms children are,
         streams_few in_fork env rest otherwise others,
-        brackets_add forms (listed (worded (codes "else") rest ∷ [])),
+        brackets_add forms (else_row rest),
       )
 
   streams_few : (in_fork : Bool) (env : Env) (forms : BareTrees) (streams : StreamTrees)

@@ -1,5 +1,5 @@
 use Rattle.std.proofs.Common.{arith}
-use Rattle.config_streams.proofs.KindLaws.{tag_more}
+use Rattle.config_streams.proofs.CodeLaws.{tag_more}
 use Rattle.config_streams.proofs.kinds.tag_rules.Goals as goal
 
 pub loop-tag-preserved : goal.loop-tag-preserved

@@ -1,0 +1,26 @@
+-- What is read of the arguments that the code has.
+use Rattle.std.specs.Prelude.{ℕ, Bool, List, [], ◌∷◌, Result, Ok}
+use Rattle.ev_types.specs.declared.settings.Set.{Set}
+use Rattle.sexp_read.specs.Tree.{form_trees}
+use Rattle.stream_plan.specs.Tree.{KindTree, kind_tree}
+use Rattle.stream_plan.specs.declared.plan.Kind.{Kind}
+use Rattle.config_terms.specs.Steps.{Fault, ◌>>=◌, nth}
+use Rattle.config_streams.specs.declared.given.Given.{Given}
+use Rattle.config_streams.specs.Shapes.{Shape, ValueOf, OneField, SetTo}
+use Rattle.config_streams.specs.Table.{Look, Row, argued_at, looks_at, read}
+
+abbrev pub value_in : Given → ℕ → (shape : Shape) → Result (ValueOf shape) Fault
+value_in given n shape = argued_at shape given.env.now given.start n (form_trees given.forms.now)
+
+abbrev pub looks_in : Given → ℕ → Look → Bool
+looks_in given n look = looks_at look given.env.now (nth n (form_trees given.forms.now))
+
+abbrev pub one_set_in : Given → Result (List Set) Fault
+one_set_in given =
+    value_in given 0 OneField >>= λ field. value_in given 1 (SetTo field) >>= λ set. Ok (set ∷ [])
+
+abbrev pub kind_in : Given → Row → Result (KindTree × ℕ) Fault
+kind_in given row = read row given.env.now given.start 0 (form_trees given.forms.now)
+
+abbrev pub made_as : Kind × ℕ → KindTree × ℕ
+made_as found = (kind_tree found.0, found.1)
