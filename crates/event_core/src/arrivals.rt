@@ -1,21 +1,21 @@
-ghost use Rattle.std.specs.Prelude.{◌≡◌, ◌+◌, ◌-◌, ◌^◌, ◌≤◌, false, List, [], ◌∷◌, ◌++◌, length, replicate, take, IfOk, IsErr, IsTrue, OnErr, OnOk};
+ghost use Rattle.std.specs.Prelude.{◌≡◌, ◌+◌, ◌-◌, ◌^◌, ◌≤◌, false, List, [], ◌∷◌, ◌++◌, length, replicate, IfOk, IsErr, IsTrue, OnErr, OnOk};
 ghost use Rattle.ev_types.specs.Clock.{seconds_per_turn_limit};
 ghost use Rattle.ev_types.specs.Interval.{IsInterval};
 ghost use Rattle.list_laws.specs.Prefix.{IsPrefix};
 ghost use Rattle.index_log.specs.Live.{live_events};
 ghost use Rattle.stream_meaning.specs.Arrivals.{Arrival, Elapsed, Post, matching_events};
-ghost use Rattle.live_index.specs.Index.{events_lent, reply_len, visited};
+ghost use Rattle.live_index.specs.Index.{reply_len, visited, Represents as IsIndexOf};
 ghost use Rattle.pred_eval.specs.Tree.{Always};
 ghost use Rattle.event_core.specs.Core.{config_of, now_of, is_poisoned, state_by, Represents, Receives};
 
 use crate::clock::Clock;
 use crate::streams::IndexedStreams;
-use ev_types::{Event, Events, Expiry, Memory, Notices};
-use packed_event::{PackedEvent, PackedRef};
+use ev_types::{Event, Expiry, Memory, Notices};
+use live_index::PackedIndex;
+use packed_event::PackedRef;
 use pred_eval::Pred;
 use std::alloc::Global;
 use step_count::{Ledger, Steps};
-use stored_event::Stored;
 use stream_plan::ReadyPlan;
 
 /// The streams of a plan, the index that they write to, and a clock of seconds. Every `interval` seconds the events
@@ -148,99 +148,17 @@ impl Core {
         Ok(())
     }
 
-    /// Appends copies of the live events that meet the predicate, in the order of the index: by host and then by
-    /// service, absent before present. After `Memory` `out` begins with what it had.
-    pub fn search<G: Ledger>(
-        &mut self,
-        alloc: Global,
-        pred: &mut Pred,
-        out: &mut Events,
-        steps: &mut Steps<G>,
-    ) -> Result<(), Memory>
-        ensures same { OnOk result (self.new ≡ self.old) }
-        ensures config { config_of self.new ≡ config_of self.old }
-        ensures now { now_of self.new ≡ now_of self.old }
-        ensures pred { pred.new ≡ pred.old }
-        ensures found { OnOk result ((arrivals : List Arrival) → Represents self.old arrivals
-            → out.new ≡ out.old ++ matching_events pred.old
-            (state_by (config_of self.old) arrivals).log) }
-        ensures forks { steps.new.forks ≡ steps.old.forks }
-        ensures began { steps.new.began ≡ steps.old.began }
-        ensures entries { (arrivals : List Arrival) → Represents self.old arrivals
-            → steps.new.entries ≤ steps.old.entries + length (visited pred.old
-            (live_events (state_by (config_of self.old) arrivals).log)) }
-        ensures poisoned { IsTrue (is_poisoned self.old) → IsErr result }
-        ensures sound { OnOk result (is_poisoned self.new ≡ false) }
-        ensures err { OnErr result (IsTrue (is_poisoned self.new)) }
-        ensures prefix { OnErr result (IsPrefix out.old out.new) }
-    {
-        if self.poisoned {
-            return Err(Memory);
-        }
-        if self.streams.search(alloc, pred, out, steps).is_err() {
-            self.poisoned = true;
-            return Err(Memory);
-        }
-        Ok(())
-    }
-
-    /// Appends the live events that meet the predicate, where they lie, in the order of [`Core::search`]. After
-    /// `Memory` the core is as it was, and `found` begins with what it had.
-    pub fn find<'a, G: Ledger>(
-        &'a self,
-        alloc: Global,
-        pred: &mut Pred,
-        found: &mut Vec<&'a Stored<PackedEvent>>,
-        steps: &mut Steps<G>,
-    ) -> Result<(), Memory>
-        ensures pred { pred.new ≡ pred.old }
-        ensures found { OnOk result ((arrivals : List Arrival) → Represents self.now arrivals
-            → events_lent found.new.items ≡ events_lent found.old.items
-            ++ matching_events pred.old (state_by (config_of self.now) arrivals).log) }
-        ensures prefix { OnErr result (IsPrefix (events_lent found.old.items)
-            (events_lent found.new.items)) }
-        ensures forks { steps.new.forks ≡ steps.old.forks }
-        ensures began { steps.new.began ≡ steps.old.began }
-        ensures entries { (arrivals : List Arrival) → Represents self.now arrivals
-            → steps.new.entries ≤ steps.old.entries + length (visited pred.old
-            (live_events (state_by (config_of self.now) arrivals).log)) }
-        ensures at_least { steps.old.entries ≤ steps.new.entries }
+    /// The index, in which the live events are found where they lie. There is none after `Memory` of a call that may
+    /// change the core.
+    pub fn index(&self) -> Result<&PackedIndex, Memory>
+        ensures log { IfOk result (λ index. (arrivals : List Arrival) → Represents self.now arrivals
+            → IsIndexOf index.now (state_by (config_of self.now) arrivals).log) }
         ensures poisoned { IsTrue (is_poisoned self.now) → IsErr result }
     {
         if self.poisoned {
             return Err(Memory);
         }
-        self.streams.find(alloc, pred, found, steps)
-    }
-
-    /// Appends the first `limit` live events that meet the predicate, where they lie, in the order of [`Core::search`].
-    /// It stops at the last of them. After `Memory` the core is as it was, and `found` begins with what it had.
-    pub fn find_first<'a, G: Ledger>(
-        &'a self,
-        alloc: Global,
-        pred: &mut Pred,
-        limit: usize,
-        found: &mut Vec<&'a Stored<PackedEvent>>,
-        steps: &mut Steps<G>,
-    ) -> Result<(), Memory>
-        ensures pred { pred.new ≡ pred.old }
-        ensures found { OnOk result ((arrivals : List Arrival) → Represents self.now arrivals
-            → events_lent found.new.items ≡ events_lent found.old.items
-            ++ take limit (matching_events pred.old (state_by (config_of self.now) arrivals).log)) }
-        ensures prefix { OnErr result (IsPrefix (events_lent found.old.items)
-            (events_lent found.new.items)) }
-        ensures forks { steps.new.forks ≡ steps.old.forks }
-        ensures began { steps.new.began ≡ steps.old.began }
-        ensures entries { (arrivals : List Arrival) → Represents self.now arrivals
-            → steps.new.entries ≤ steps.old.entries + length (visited pred.old
-            (live_events (state_by (config_of self.now) arrivals).log)) }
-        ensures at_least { steps.old.entries ≤ steps.new.entries }
-        ensures poisoned { IsTrue (is_poisoned self.now) → IsErr result }
-    {
-        if self.poisoned {
-            return Err(Memory);
-        }
-        self.streams.find_first(alloc, pred, limit, found, steps)
+        Ok(self.streams.index())
     }
 
     /// Lists the keys of the index in order, where a search for the predicate has to look at all of them. The list is
@@ -255,7 +173,7 @@ impl Core {
         self.streams.prepare(alloc, pred)
     }
 
-    /// How many bytes a reply has with the live events that meet the predicate, those that [`Core::find`] lends. What
+    /// How many bytes a reply has with the live events that meet the predicate, those that the index lends. What
     /// is learned of an event is kept until another one takes its place. After `Memory` the core is as it was; that is
     /// also answered where the bytes are 2^64 or more, which is more than a `usize` can count.
     pub fn found_len<G: Ledger>(

@@ -8,3 +8,4 @@ mod outputs;
 mod streams;
 
 pub use arrivals::Core;
+pub use live_index::PackedIndex;

@@ -1,4 +1,4 @@
-ghost use Rattle.std.specs.Prelude.{◌≡◌, ◌==◌, ◌+◌, ◌-◌, ◌%◌, ◌^◌, ◌<◌, ◌≤◌, [], ◌++◌, map, replicate, length, take, IfOk, OnErr, OnOk};
+ghost use Rattle.std.specs.Prelude.{◌≡◌, ◌==◌, ◌+◌, ◌-◌, ◌%◌, ◌^◌, ◌<◌, ◌≤◌, [], ◌++◌, map, replicate, length, IfOk, OnErr, OnOk};
 ghost use Rattle.list_laws.specs.Prefix.{IsPrefix};
 ghost use Rattle.ev_types.specs.declared.item.Item.TheVariants.{One};
 ghost use Rattle.ev_types.specs.Rebirth.{expired_copy};
@@ -6,7 +6,7 @@ ghost use Rattle.stream_meaning.specs.History.{since, begun, moment_of};
 ghost use Rattle.stream_meaning.specs.declared.entry.Entry.TheVariants.{Tick, Item as In};
 ghost use Rattle.stream_meaning.specs.Arrivals.{CoreState, Elapsed, entered, streamed, fed_back, swept, arrived, state_from, matching_events};
 ghost use Rattle.index_log.specs.Live.{live_events};
-ghost use Rattle.live_index.specs.Index.{events_lent, reply_len, visited};
+ghost use Rattle.live_index.specs.Index.{reply_len, visited, Represents as IsIndexOf};
 ghost use Rattle.pred_eval.specs.Tree.{Always};
 ghost use Rattle.event_core.specs.Streams.{plan_of, Holds, Moved, Visited};
 
@@ -14,11 +14,10 @@ use crate::clock::Clock;
 use crate::outputs::handle;
 use ev_types::{Event, Events, KeepKeys, Memory, Notices, Outputs};
 use live_index::PackedIndex;
-use packed_event::{PackedEvent, PackedRef};
+use packed_event::PackedRef;
 use pred_eval::Pred;
 use std::alloc::Global;
 use step_count::{Ledger, Steps};
-use stored_event::Stored;
 use stream_plan::ReadyPlan;
 use stream_tree::{Tree, Unseen};
 
@@ -366,78 +365,11 @@ impl IndexedStreams {
         Ok(())
     }
 
-    /// Appends copies of the live events that meet the predicate, in the order of the index.
-    pub(crate) fn search<G: Ledger>(
-        &mut self,
-        alloc: Global,
-        pred: &mut Pred,
-        out: &mut Events,
-        steps: &mut Steps<G>,
-    ) -> Result<(), Memory>
-        ensures same { self.new ≡ self.old }
-        ensures pred { pred.new ≡ pred.old }
-        ensures found { OnOk result ((state : CoreState) → Holds self.old state
-            → out.new ≡ out.old ++ matching_events pred.old state.log) }
-        ensures prefix { OnErr result (IsPrefix out.old out.new) }
-        ensures forks { steps.new.forks ≡ steps.old.forks }
-        ensures began { steps.new.began ≡ steps.old.began }
-        ensures visited { (state : CoreState) → Holds self.old state →
-            steps.new.entries ≤ steps.old.entries
-            + length (visited pred.old (live_events state.log)) }
+    /// The index.
+    pub(crate) fn index(&self) -> &PackedIndex
+        ensures { (state : CoreState) → Holds self.now state → IsIndexOf result.now state.log }
     {
-        self.index.search(alloc, pred, out, steps)?;
-        Ok(())
-    }
-
-    /// Appends the live events that meet the predicate, where they lie, in the order of the index.
-    pub(crate) fn find<'a, G: Ledger>(
-        &'a self,
-        alloc: Global,
-        pred: &mut Pred,
-        found: &mut Vec<&'a Stored<PackedEvent>>,
-        steps: &mut Steps<G>,
-    ) -> Result<(), Memory>
-        ensures pred { pred.new ≡ pred.old }
-        ensures found { OnOk result ((state : CoreState) → Holds self.now state
-            → events_lent found.new.items
-            ≡ events_lent found.old.items ++ matching_events pred.old state.log) }
-        ensures prefix { OnErr result (IsPrefix (events_lent found.old.items)
-            (events_lent found.new.items)) }
-        ensures forks { steps.new.forks ≡ steps.old.forks }
-        ensures began { steps.new.began ≡ steps.old.began }
-        ensures at_least { steps.old.entries ≤ steps.new.entries }
-        ensures visited { (state : CoreState) → Holds self.now state →
-            steps.new.entries ≤ steps.old.entries
-            + length (visited pred.old (live_events state.log)) }
-    {
-        self.index.find(alloc, pred, found, steps)?;
-        Ok(())
-    }
-
-    /// Appends the first `limit` live events that meet the predicate, where they lie, in the order of the index.
-    pub(crate) fn find_first<'a, G: Ledger>(
-        &'a self,
-        alloc: Global,
-        pred: &mut Pred,
-        limit: usize,
-        found: &mut Vec<&'a Stored<PackedEvent>>,
-        steps: &mut Steps<G>,
-    ) -> Result<(), Memory>
-        ensures pred { pred.new ≡ pred.old }
-        ensures found { OnOk result ((state : CoreState) → Holds self.now state
-            → events_lent found.new.items ≡ events_lent found.old.items
-            ++ take limit (matching_events pred.old state.log)) }
-        ensures prefix { OnErr result (IsPrefix (events_lent found.old.items)
-            (events_lent found.new.items)) }
-        ensures forks { steps.new.forks ≡ steps.old.forks }
-        ensures began { steps.new.began ≡ steps.old.began }
-        ensures at_least { steps.old.entries ≤ steps.new.entries }
-        ensures visited { (state : CoreState) → Holds self.now state →
-            steps.new.entries ≤ steps.old.entries
-            + length (visited pred.old (live_events state.log)) }
-    {
-        self.index.find_first(alloc, pred, limit, found, steps)?;
-        Ok(())
+        &self.index
     }
 
     /// Lists the keys of the index in order, where a search for the predicate has to look at all of them.

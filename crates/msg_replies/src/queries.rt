@@ -196,7 +196,8 @@ fn put_few<G: Ledger>(
     ensures many { IfOk result (λ few. few ≡ false → replies.new ≡ replies.old) }
 {
     let mut events = Vec::new(alloc);
-    core.find_first(alloc, pred, FEW + 1, &mut events, steps)?;
+    core.index()?
+        .find_first(alloc, pred, FEW + 1, &mut events, steps)?;
     if events.len() > FEW {
         return Ok(false);
     }
@@ -264,7 +265,7 @@ fn put_events<G: Ledger>(
         (found (matching_events pred.old (state_by (config_of core.now) arrivals).log))) }
 {
     let mut events = Vec::new(alloc);
-    core.find(alloc, pred, &mut events, steps)?;
+    core.index()?.find(alloc, pred, &mut events, steps)?;
     put_lent(alloc, events.as_slice(), size, replies)
 }
 
