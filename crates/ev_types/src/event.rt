@@ -31,7 +31,20 @@ pub struct Event {
 
 impl Drop for Event {
     fn drop(self) {
-        let Event { host: _host, service: _service, state: _state, description: _description, tags: _tags, time: _time, time_micros: _time_micros, ttl: _ttl, metric: _metric, raw_d: _raw_d, raw_f: _raw_f, attributes: _attributes } = self;
+        let Event {
+            host: _host,
+            service: _service,
+            state: _state,
+            description: _description,
+            tags: _tags,
+            time: _time,
+            time_micros: _time_micros,
+            ttl: _ttl,
+            metric: _metric,
+            raw_d: _raw_d,
+            raw_f: _raw_f,
+            attributes: _attributes,
+        } = self;
     }
 }
 
@@ -52,7 +65,10 @@ pub struct Attr {
 
 impl Drop for Attr {
     fn drop(self) {
-        let Attr { key: _key, value: _value } = self;
+        let Attr {
+            key: _key,
+            value: _value,
+        } = self;
     }
 }
 

@@ -39,7 +39,11 @@ pub struct Notice {
 
 impl Drop for Notice {
     fn drop(self) {
-        let Notice { name: _name, moment: _moment, item: _item } = self;
+        let Notice {
+            name: _name,
+            moment: _moment,
+            item: _item,
+        } = self;
     }
 }
 

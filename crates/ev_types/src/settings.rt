@@ -38,7 +38,10 @@ pub struct Set {
 
 impl Drop for Set {
     fn drop(self) {
-        let Set { field: _field, value: _value } = self;
+        let Set {
+            field: _field,
+            value: _value,
+        } = self;
     }
 }
 

@@ -36,7 +36,12 @@ pub struct ChangedState {
 
 impl Drop for ChangedState {
     fn drop(self) {
-        let ChangedState { field: _field, init: _init, last: _last, poisoned: _poisoned } = self;
+        let ChangedState {
+            field: _field,
+            init: _init,
+            last: _last,
+            poisoned: _poisoned,
+        } = self;
     }
 }
 

@@ -34,7 +34,12 @@ pub struct RunsState {
 
 impl Drop for RunsState {
     fn drop(self) {
-        let RunsState { params: _params, last: _last, length: _length, poisoned: _poisoned } = self;
+        let RunsState {
+            params: _params,
+            last: _last,
+            length: _length,
+            poisoned: _poisoned,
+        } = self;
     }
 }
 

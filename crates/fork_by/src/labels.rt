@@ -21,7 +21,9 @@ pub(crate) struct Labels {
 
 impl Drop for Labels {
     fn drop(self) {
-        let Labels { register: _register } = self;
+        let Labels {
+            register: _register,
+        } = self;
     }
 }
 

@@ -46,7 +46,15 @@ pub(crate) struct Register {
 
 impl Drop for Register {
     fn drop(self) {
-        let Register { numbers: _numbers, slots: _slots, moments: _moments, due: _due, next: _next, hints: _hints, changes: _changes } = self;
+        let Register {
+            numbers: _numbers,
+            slots: _slots,
+            moments: _moments,
+            due: _due,
+            next: _next,
+            hints: _hints,
+            changes: _changes,
+        } = self;
     }
 }
 

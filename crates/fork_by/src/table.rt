@@ -24,7 +24,10 @@ pub struct ForkTable<F> {
 
 impl<F: Drop> Drop for ForkTable<F> {
     fn drop(self) {
-        let ForkTable { labels: _labels, forks: _forks } = self;
+        let ForkTable {
+            labels: _labels,
+            forks: _forks,
+        } = self;
     }
 }
 

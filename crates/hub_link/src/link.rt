@@ -35,7 +35,13 @@ pub struct HubLink {
 
 impl Drop for HubLink {
     fn drop(self) {
-        let HubLink { number: _number, stage: _stage, blocked: _blocked, input: _input, unsent: _unsent } = self;
+        let HubLink {
+            number: _number,
+            stage: _stage,
+            blocked: _blocked,
+            input: _input,
+            unsent: _unsent,
+        } = self;
     }
 }
 

@@ -16,7 +16,10 @@ pub(crate) struct Services {
 
 impl Drop for Services {
     fn drop(self) {
-        let Services { absent: _absent, present: _present } = self;
+        let Services {
+            absent: _absent,
+            present: _present,
+        } = self;
     }
 }
 

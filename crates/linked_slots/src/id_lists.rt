@@ -25,7 +25,12 @@ pub struct Lists {
 
 impl Drop for Lists {
     fn drop(self) {
-        let Lists { nodes: _nodes, heads: _heads, room: _room, changes: _changes } = self;
+        let Lists {
+            nodes: _nodes,
+            heads: _heads,
+            room: _room,
+            changes: _changes,
+        } = self;
     }
 }
 

@@ -30,7 +30,11 @@ pub struct EventIndex<P: EventForm> {
 
 impl<P: EventForm> Drop for EventIndex<P> {
     fn drop(self) {
-        let EventIndex { slots: _slots, poisoned: _poisoned, all_len: _all_len } = self;
+        let EventIndex {
+            slots: _slots,
+            poisoned: _poisoned,
+            all_len: _all_len,
+        } = self;
     }
 }
 

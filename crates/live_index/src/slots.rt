@@ -40,7 +40,13 @@ pub(crate) struct Slots<P: EventForm> {
 
 impl<P: EventForm> Drop for Slots<P> {
     fn drop(self) {
-        let Slots { numbers: _numbers, events: _events, due: _due, count: _count, hints: _hints } = self;
+        let Slots {
+            numbers: _numbers,
+            events: _events,
+            due: _due,
+            count: _count,
+            hints: _hints,
+        } = self;
     }
 }
 

@@ -26,7 +26,10 @@ pub struct PackedEvent {
 
 impl Drop for PackedEvent {
     fn drop(self) {
-        let PackedEvent { bytes: _bytes, places: _places } = self;
+        let PackedEvent {
+            bytes: _bytes,
+            places: _places,
+        } = self;
     }
 }
 

@@ -26,7 +26,10 @@ pub struct Finder {
 
 impl Drop for Finder {
     fn drop(self) {
-        let Finder { regex: _regex, states: _states } = self;
+        let Finder {
+            regex: _regex,
+            states: _states,
+        } = self;
     }
 }
 

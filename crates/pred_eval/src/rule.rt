@@ -50,10 +50,23 @@ impl Drop for Rule {
             Rule::All(_a) => {}
             Rule::Any(_a) => {}
             Rule::Tagged(_a) => {}
-            Rule::Equal { field: _field, value: _value } => {}
-            Rule::Order { field: _field, order: _order, number: _number } => {}
-            Rule::Wild { field: _field, pattern: _pattern } => {}
-            Rule::Search { field: _field, pattern: _pattern } => {}
+            Rule::Equal {
+                field: _field,
+                value: _value,
+            } => {}
+            Rule::Order {
+                field: _field,
+                order: _order,
+                number: _number,
+            } => {}
+            Rule::Wild {
+                field: _field,
+                pattern: _pattern,
+            } => {}
+            Rule::Search {
+                field: _field,
+                pattern: _pattern,
+            } => {}
         }
     }
 }

@@ -40,7 +40,14 @@ pub struct StableState {
 
 impl Drop for StableState {
     fn drop(self) {
-        let StableState { secs: _secs, field: _field, last: _last, began: _began, waiting: _waiting, poisoned: _poisoned } = self;
+        let StableState {
+            secs: _secs,
+            field: _field,
+            last: _last,
+            began: _began,
+            waiting: _waiting,
+            poisoned: _poisoned,
+        } = self;
     }
 }
 

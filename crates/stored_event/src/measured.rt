@@ -22,7 +22,10 @@ pub struct MeasuredEvent {
 
 impl Drop for MeasuredEvent {
     fn drop(self) {
-        let MeasuredEvent { len: _len, event: _event } = self;
+        let MeasuredEvent {
+            len: _len,
+            event: _event,
+        } = self;
     }
 }
 

@@ -22,7 +22,11 @@ pub struct Stream {
 
 impl Drop for Stream {
     fn drop(self) {
-        let Stream { kind: _kind, children: _children, otherwise: _otherwise } = self;
+        let Stream {
+            kind: _kind,
+            children: _children,
+            otherwise: _otherwise,
+        } = self;
     }
 }
 
@@ -85,13 +89,34 @@ impl Drop for Kind {
             Kind::With(_a) => {}
             Kind::Default(_a) => {}
             Kind::Tag(_a) => {}
-            Kind::By { fields: _fields, idle: _idle } => {}
-            Kind::Changed { field: _field, init: _init } => {}
-            Kind::Runs { count: _count, field: _field } => {}
-            Kind::Throttle { count: _count, secs: _secs } => {}
-            Kind::Rollup { count: _count, secs: _secs } => {}
-            Kind::Batch { count: _count, secs: _secs } => {}
-            Kind::Stable { secs: _secs, field: _field } => {}
+            Kind::By {
+                fields: _fields,
+                idle: _idle,
+            } => {}
+            Kind::Changed {
+                field: _field,
+                init: _init,
+            } => {}
+            Kind::Runs {
+                count: _count,
+                field: _field,
+            } => {}
+            Kind::Throttle {
+                count: _count,
+                secs: _secs,
+            } => {}
+            Kind::Rollup {
+                count: _count,
+                secs: _secs,
+            } => {}
+            Kind::Batch {
+                count: _count,
+                secs: _secs,
+            } => {}
+            Kind::Stable {
+                secs: _secs,
+                field: _field,
+            } => {}
             Kind::FixedEvent { count: _count } => {}
             Kind::MovingEvent { count: _count } => {}
             Kind::FixedTime { secs: _secs } => {}

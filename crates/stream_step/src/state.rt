@@ -34,7 +34,10 @@ impl Drop for State {
     fn drop(self) {
         match self {
             State::Empty => {}
-            State::Rule { first: _first, count: _count } => {}
+            State::Rule {
+                first: _first,
+                count: _count,
+            } => {}
             State::Kept(_a) => {}
             State::Forks { first: _first } => {}
         }

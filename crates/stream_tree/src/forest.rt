@@ -40,7 +40,12 @@ pub(crate) struct Node {
 
 impl Drop for Node {
     fn drop(self) {
-        let Node { state: _state, children: _children, otherwise: _otherwise, forks: _forks } = self;
+        let Node {
+            state: _state,
+            children: _children,
+            otherwise: _otherwise,
+            forks: _forks,
+        } = self;
     }
 }
 

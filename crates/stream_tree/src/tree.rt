@@ -35,7 +35,12 @@ pub struct Tree {
 
 impl Drop for Tree {
     fn drop(self) {
-        let Tree { plan: _plan, forest: _forest, start: _start, poisoned: _poisoned } = self;
+        let Tree {
+            plan: _plan,
+            forest: _forest,
+            start: _start,
+            poisoned: _poisoned,
+        } = self;
     }
 }
 

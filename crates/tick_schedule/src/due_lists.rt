@@ -30,7 +30,12 @@ pub(crate) struct DueLists {
 
 impl Drop for DueLists {
     fn drop(self) {
-        let DueLists { numbers: _numbers, lists: _lists, first: _first, recent: _recent } = self;
+        let DueLists {
+            numbers: _numbers,
+            lists: _lists,
+            first: _first,
+            recent: _recent,
+        } = self;
     }
 }
 

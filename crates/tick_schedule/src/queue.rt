@@ -26,7 +26,10 @@ pub struct DueQueue {
 
 impl Drop for DueQueue {
     fn drop(self) {
-        let DueQueue { places: _places, lists: _lists } = self;
+        let DueQueue {
+            places: _places,
+            lists: _lists,
+        } = self;
     }
 }
 
