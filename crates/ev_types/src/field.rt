@@ -30,7 +30,7 @@ impl Drop for Field {
             Field::Time => {}
             Field::Ttl => {}
             Field::Metric => {}
-            Field::Attribute(_a) => {}
+            Field::Attribute(_key) => {}
         }
     }
 }

@@ -12,8 +12,8 @@ pub enum Item {
 impl Drop for Item {
     fn drop(self) {
         match self {
-            Item::One(_a) => {}
-            Item::Many(_a) => {}
+            Item::One(_event) => {}
+            Item::Many(_events) => {}
         }
     }
 }

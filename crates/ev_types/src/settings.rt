@@ -11,7 +11,7 @@ pub enum KeepKey {
 impl Drop for KeepKey {
     fn drop(self) {
         match self {
-            KeepKey::Field(_a) => {}
+            KeepKey::Field(_field) => {}
             KeepKey::Tags => {}
         }
     }

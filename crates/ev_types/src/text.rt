@@ -45,8 +45,8 @@ enum Chars {
 impl Drop for Chars {
     fn drop(self) {
         match self {
-            Chars::Inline(_a) => {}
-            Chars::Heap(_a) => {}
+            Chars::Inline(_chars) => {}
+            Chars::Heap(_chars) => {}
         }
     }
 }

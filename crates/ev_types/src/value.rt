@@ -27,8 +27,8 @@ impl Drop for Value {
     fn drop(self) {
         match self {
             Value::Nil => {}
-            Value::Number(_a) => {}
-            Value::Text(_a) => {}
+            Value::Number(_number) => {}
+            Value::Text(_text) => {}
         }
     }
 }

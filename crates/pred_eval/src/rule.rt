@@ -46,10 +46,10 @@ impl Drop for Rule {
         match self {
             Rule::Always => {}
             Rule::Never => {}
-            Rule::Not(_a) => {}
-            Rule::All(_a) => {}
-            Rule::Any(_a) => {}
-            Rule::Tagged(_a) => {}
+            Rule::Not(_rule) => {}
+            Rule::All(_rules) => {}
+            Rule::Any(_rules) => {}
+            Rule::Tagged(_tag) => {}
             Rule::Equal {
                 field: _field,
                 value: _value,

@@ -83,12 +83,12 @@ impl Drop for Kind {
     fn drop(self) {
         match self {
             Kind::Index => {}
-            Kind::Notice(_a) => {}
+            Kind::Notice(_name) => {}
             Kind::Sdo => {}
-            Kind::Where(_a) => {}
-            Kind::With(_a) => {}
-            Kind::Default(_a) => {}
-            Kind::Tag(_a) => {}
+            Kind::Where(_rule) => {}
+            Kind::With(_sets) => {}
+            Kind::Default(_sets) => {}
+            Kind::Tag(_tags) => {}
             Kind::By {
                 fields: _fields,
                 idle: _idle,
@@ -122,7 +122,7 @@ impl Drop for Kind {
             Kind::FixedTime { secs: _secs } => {}
             Kind::MovingTime { secs: _secs } => {}
             Kind::Coalesce { secs: _secs } => {}
-            Kind::Smap(_a) => {}
+            Kind::Smap(_fold) => {}
         }
     }
 }

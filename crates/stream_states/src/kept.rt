@@ -40,17 +40,17 @@ pub enum KeptState {
 impl Drop for KeptState {
     fn drop(self) {
         match self {
-            KeptState::Changed(_a) => {}
-            KeptState::Runs(_a) => {}
-            KeptState::Throttle(_a) => {}
-            KeptState::Rollup(_a) => {}
-            KeptState::Batch(_a) => {}
-            KeptState::Stable(_a) => {}
-            KeptState::FixedEvent(_a) => {}
-            KeptState::MovingEvent(_a) => {}
-            KeptState::FixedTime(_a) => {}
-            KeptState::MovingTime(_a) => {}
-            KeptState::Coalesce(_a) => {}
+            KeptState::Changed(_state) => {}
+            KeptState::Runs(_state) => {}
+            KeptState::Throttle(_state) => {}
+            KeptState::Rollup(_state) => {}
+            KeptState::Batch(_state) => {}
+            KeptState::Stable(_state) => {}
+            KeptState::FixedEvent(_state) => {}
+            KeptState::MovingEvent(_state) => {}
+            KeptState::FixedTime(_state) => {}
+            KeptState::MovingTime(_state) => {}
+            KeptState::Coalesce(_state) => {}
         }
     }
 }

@@ -38,7 +38,7 @@ impl Drop for State {
                 first: _first,
                 count: _count,
             } => {}
-            State::Kept(_a) => {}
+            State::Kept(_kept) => {}
             State::Forks { first: _first } => {}
         }
     }
