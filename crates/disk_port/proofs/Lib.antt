@@ -1,2 +1,1 @@
 pub mod PastLaws
-pub mod NameLemmas

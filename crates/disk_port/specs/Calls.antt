@@ -1,5 +1,5 @@
 -- What a disk reports, and why its calls answer so.
-use Rattle.std.specs.Prelude.{◌≡◌, ℕ, ◌-◌, ◌≤◌, List, [], ◌∷◌, length, map, take, drop, min, Option, Result, Ok, Err}
+use Rattle.std.specs.Prelude.{◌≡◌, ℕ, ◌-◌, ◌≤◌, List, [], ◌∷◌, length, take, drop, min, Option, Result, Ok, Err}
 use Rattle.list_laws.specs.Counts.{Rose}
 use Rattle.disk_port.specs.Past.{Past}
 use Rattle.disk_port.specs.declared.disk.DiskError.{DiskError}
@@ -12,10 +12,6 @@ pub record DiskReport : Type 0 where
   pub opened : Option (List (List ℕ))
   -- how many calls failed
   pub faults : ℕ
-
--- the names of a history that only proofs read
-abbrev pub names_in : List (List ℕ × ℕ) → List (List ℕ)
-names_in = map (λ pair. pair.0)
 
 -- the count of faults rose, and did not fall
 pub record Fails (old new : ℕ) : Type 0 where

@@ -1,49 +1,48 @@
 ghost use Rattle.std.specs.Prelude.{◌≡◌, ◌≤◌, [], None, Some, length, drop, IfOk, IsErrOf};
-ghost use Rattle.disk_port.specs.Calls.{HasCause, names_in};
+ghost use Rattle.disk_port.specs.Calls.{HasCause};
 
 use crate::disk::{Disk, DiskError};
 use ev_types::Text;
-use http_server::Log;
+use ghost_logs::TextLog;
 use std::alloc::Global;
 use std::fs::{OpenFile, OpenOptions};
 use std::io;
 use std::io::{ErrorKind, Read, Seek, SeekFrom, Write};
 use std::rt::Files;
 
-/// A file of the machine, by its path. It reports which were opened, and not what the file holds. Before a file is open, each call but
-/// [`Disk::open`] fails.
+/// A file of the machine, by its path. It reports the names that were opened, and not what the file holds. Before a
+/// file is open, each call but [`Disk::open`] fails.
 #[derive(Drop)]
 pub struct FileDisk<'a, R: Files> {
     rt: &'a R,
     file: Option<R::File>,
     /// How many calls failed.
     pub faults: u64,
-    /// The names that were opened, which only proofs see. A `Log` has no bytes when the program runs.
-    pub opened: Log<Text, u8>,
+    // The names that were opened, which only proofs see.
+    opened: TextLog,
 }
 
 impl<'a, R: Files> FileDisk<'a, R> {
     /// A disk with no file open, of the files that the runtime reaches.
     pub fn fresh(rt: &'a R) -> FileDisk<'a, R>
-        ensures faults { result.faults ≡ 0 }
-        ensures opened { names_in result.opened.items ≡ [] }
+        ensures { ⟦<FileDisk<'a, R> as Disk>⟧.report result
+            ≡ record { past = None; opened = Some []; faults = 0 } }
     {
         FileDisk {
             rt,
             file: None,
             faults: 0,
-            opened: Log::new(),
+            opened: TextLog::fresh(),
         }
     }
 }
 
 impl<'a, R: Files> Disk for FileDisk<'a, R> {
-    ghost report = { λ disk. record { past = None; opened = Some (names_in disk.opened.items); faults = disk.faults } };
+    ghost report = { λ disk. record { past = None; opened = Some disk.opened; faults = disk.faults } };
 
-    #[tactic(auto, using(crate::proofs::NameLemmas::one_name_more))]
     fn open(&mut self, _alloc: Global, name: &Text) -> Result<(), DiskError> {
         let opened = open_file(self.rt, name.as_str());
-        self.opened = self.opened.and(name, &0);
+        self.opened.add(name);
         match opened {
             Ok(file) => {
                 self.file = Some(file);

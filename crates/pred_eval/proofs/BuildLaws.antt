@@ -3,7 +3,7 @@ use Rattle.std.proofs.Common.{◌≡◌, ◌≢◌, ℕ, suc, ◌+◌, ◌<◌, 
 use Rattle.std.proofs.Common.{refl, sym, ap, ◌∙◌, append_assoc, subst, arith, zero, Result, Ok, Err, OnErr}
 use denote.Ref.{Bor}
 use Rattle.std.specs.Option.{option_map}
-use Rattle.std.proofs.lemmas.List.{append-nil, map-append, take_more, length-map}
+use Rattle.std.proofs.lemmas.List.{append-nil, take_more, length-map}
 use Rattle.list_laws.specs.Prefix.{IsPrefix}
 use Rattle.regex.specs.declared.string.regex.Regex.{Regex}
 use Rattle.regex.specs.Failures.{IsRightKind}
@@ -11,7 +11,7 @@ use Rattle.regex.specs.Sources.{IsRefusal}
 use Rattle.regex.specs.declared.error.Error.{Error}
 use Rattle.regex.specs.declared.error.Error.TheVariants.{Syntax, CompiledTooBig, Internal, OutOfMemory}
 use Rattle.regex_syntax.specs.Verdict.{default_config}
-use Rattle.pred_eval.specs.Building.{IsCause, texts_in, texts_of}
+use Rattle.pred_eval.specs.Building.{IsCause, texts_of}
 use Rattle.pred_eval.specs.Search.{IsReadFrom, AreReadFrom}
 
 -- an error that is not memory is a cause
@@ -73,11 +73,6 @@ module _ (texts : List (Bor (List ℕ))) (text : Bor (List ℕ)) (i : ℕ) (with
       (sym (take_more (texts_of texts) i [] number_within))
       (read_more (take i (texts_of texts)) built (get_or (texts_of texts) i []) regex all
       (subst (λ pattern. IsReadFrom pattern regex) (sym text_of_number) one)))
-
--- a text more in a history that only proofs read
-pub one_text_more : (items : List (List ℕ × ℕ)) (text : List ℕ) (n : ℕ)
-    → texts_in (items ++ (text, n) ∷ []) ≡ texts_in items ++ text ∷ []
-one_text_more items text n = map-append (λ (pair : List ℕ × ℕ). pair.0) items ((text, n) ∷ [])
 
 pub no_text_more : (texts : List (List ℕ)) → texts ≡ texts ++ []
 no_text_more texts = sym (append-nil texts)

@@ -51,10 +51,6 @@ refused_by pattern (Built regex) = []
 refused_by pattern Refused = pattern ∷ []
 refused_by pattern Memory = []
 
--- the texts of a history that only proofs read
-abbrev pub texts_in : List (List ℕ × ℕ) → List (List ℕ)
-texts_in = map (λ pair. pair.0)
-
 -- texts that are lent
 abbrev pub texts_of : List (Bor (List ℕ)) → List (List ℕ)
 texts_of = map (λ text. text.now)

@@ -1,12 +1,12 @@
 ghost use Rattle.std.specs.Prelude.{◌≡◌, ◌≢◌, ℕ, ◌<◌, ◌≤◌, ◌^◌, List, [], ◌++◌, length, Some, IfOk};
 ghost use Rattle.std.specs.Option.{option_map};
-ghost use Rattle.pred_eval.specs.Building.{IsAnswerTo, IsCounted, refused_by, texts_in, texts_of, HasCause, refused_of};
+ghost use Rattle.pred_eval.specs.Building.{IsAnswerTo, IsCounted, refused_by, texts_of, HasCause, refused_of};
 ghost use Rattle.pred_eval.specs.Search.{AreReadFrom};
 ghost use Rattle.pred_eval.specs.declared.patterns.BuildFault.TheVariants.{Memory as out_of_memory};
 
 use crate::Finder;
 use ev_types::{Memory, Text, Texts};
-use http_server::Log;
+use ghost_logs::TextLog;
 use regex::{Error, Regex};
 use std::alloc::{AllocFailed, Global};
 use thiserror::Error;
@@ -43,19 +43,19 @@ pub trait Patterns {
 #[derive(Drop)]
 pub struct RegexPatterns {
     pub refusals: u64,
-    /// The texts that were refused, which only proofs see. A `Log` has no bytes when the program runs.
-    pub refused: Log<Text, u8>,
+    // The texts that were refused, which only proofs see.
+    refused: TextLog,
 }
 
 impl RegexPatterns {
     /// Patterns of which none was refused yet.
     pub fn fresh() -> RegexPatterns
-        ensures refusals { result.refusals ≡ 0 }
-        ensures refused { texts_in result.refused.items ≡ [] }
+        ensures { ⟦<RegexPatterns as Patterns>⟧.report result
+            ≡ record { refusals = 0; refused = Some [] } }
     {
         RegexPatterns {
             refusals: 0,
-            refused: Log::new(),
+            refused: TextLog::fresh(),
         }
     }
 }
@@ -63,15 +63,15 @@ impl RegexPatterns {
 impl Patterns for RegexPatterns {
     ghost report = { λ patterns. record {
       refusals = patterns.refusals;
-      refused = Some (texts_in patterns.refused.items);
+      refused = Some patterns.refused;
     } };
 
-    #[tactic(auto, using(crate::proofs::BuildLaws::one_text_more, crate::proofs::BuildLaws::no_text_more))]
+    #[tactic(auto, using(crate::proofs::BuildLaws::no_text_more))]
     fn build(&mut self, alloc: Global, pattern: &Text) -> PatternAnswer {
         let answer = read_regex(alloc, pattern);
         if let PatternAnswer::Refused = answer {
             self.refusals = self.refusals.saturating_add(1);
-            self.refused = self.refused.and(pattern, &0);
+            self.refused.add(pattern);
         }
         answer
     }
