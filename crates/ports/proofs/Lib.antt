@@ -1,5 +1,5 @@
 pub mod StreamLemmas
-pub mod GhostListLemmas
+pub mod ReadLemmas
 pub mod FileLemmas
 pub mod RuleLemmas
 pub mod MarkLemmas

@@ -8,7 +8,7 @@ pub mod Links
 pub mod Playing
 pub mod Calls
 pub mod Tables
-pub mod GhostLists
+pub mod Reads
 pub mod Streams
 pub mod Marks
 pub mod ScriptLinks

@@ -1,9 +1,10 @@
 ghost use Rattle.std.specs.Prelude.{◌≡◌, ◌↔◌, ◌+◌, ◌≤◌, [], ◌++◌, None, Some, take, vec_len, IsTrue, IfSome, IsErrAnd, OnOk};
 ghost use Rattle.std.specs.IoError.{error_kind};
 
-use crate::ghost_lists::{FileLog, ReadLog};
+use crate::read_log::ReadLog;
 use crate::store::{ReadAnswer, Store};
 use ev_types::{Blob, Text};
+use ghost_logs::FileLog;
 use std::alloc::Global;
 use std::io::{ErrorKind, Read};
 use std::rt::Files;
@@ -17,19 +18,22 @@ pub struct FileStore<'a, R: Files> {
     pub taken: u64,
     /// How many reads failed.
     pub faults: u64,
-    /// The reads so far that were answered, which only proofs see.
-    pub reads: ReadLog,
-    /// The files that reads gave, with their bytes, which only proofs see.
-    pub gave: FileLog,
+    // The reads so far that were answered, which only proofs see.
+    reads: ReadLog,
+    // The files that reads gave, with their bytes, which only proofs see.
+    gave: FileLog,
 }
 
 impl<'a, R: Files> FileStore<'a, R> {
     /// The files that the runtime reaches. None was read yet.
     pub fn fresh(rt: &'a R) -> FileStore<'a, R>
-        ensures taken { result.taken ≡ 0 }
-        ensures faults { result.faults ≡ 0 }
-        ensures reads { result.reads ≡ [] }
-        ensures gave { result.gave ≡ [] }
+        ensures { ⟦<FileStore<'a, R> as Store>⟧.report result ≡ record {
+          held = λ _. None;
+          reads = Some [];
+          gave = Some [];
+          taken = 0;
+          faults = 0;
+        } }
     {
         FileStore {
             rt,

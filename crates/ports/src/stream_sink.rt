@@ -4,8 +4,8 @@ ghost use Rattle.ports.specs.Counts.{Rose};
 ghost use Rattle.ports.specs.Streams.{TookAll, TookFirst, stream_report};
 ghost use Rattle.ports.specs.Writing.{FailsToPut, Puts};
 
-use crate::ghost_lists::ByteLog;
 use crate::sink::{Failed, Sink};
+use ghost_logs::ByteLog;
 use std::io;
 use std::io::{ErrorKind, Write};
 
@@ -18,16 +18,15 @@ pub struct StreamSink<W: Write> {
     pub faults: u64,
     /// How many puts succeeded.
     pub puts: u64,
-    /// The bytes that the writer took, which only proofs see.
-    pub text: ByteLog,
+    // The bytes that the writer took, which only proofs see.
+    text: ByteLog,
 }
 
 impl<W: Write> StreamSink<W> {
     /// A sink that writes to the writer. Nothing was put yet.
     pub fn fresh(writer: W) -> StreamSink<W>
         ensures writer { result.writer ≡ writer }
-        ensures counts { (result.faults ≡ 0) × (result.puts ≡ 0) }
-        ensures text { result.text ≡ [] }
+        ensures report { ⟦<StreamSink<W> as Sink>⟧.report result ≡ stream_report [] 0 0 }
     {
         StreamSink {
             writer,

@@ -1,9 +1,6 @@
--- What the lists hold that only proofs see.
+-- What a log of reads holds.
 use Rattle.std.specs.Prelude.{ℕ, Bool, List, map}
 use Rattle.ports.specs.declared.store.StoreRead.{StoreRead}
-
-abbrev pub bytes_in : List (ℕ × ℕ) → List ℕ
-bytes_in = map (λ pair. pair.0)
 
 -- a read of this name that was answered, and whether it failed
 abbrev pub read_of : List ℕ → Bool → StoreRead
