@@ -15,8 +15,7 @@ use crate::packed::PackedEvent;
 use crate::packed_ref::PackedRef;
 use crate::places::bytes_from;
 use crate::repeated::{ATTRIBUTES, TAGS, after_all, has_tag, last_value};
-use ev_types::{Field, Text};
-use event_fields::EventFields;
+use ev_types::{EventFields, Field, Text};
 use std::str::from_utf8_unchecked;
 
 impl<'a> PackedRef<'a> {

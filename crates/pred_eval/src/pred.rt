@@ -11,8 +11,7 @@ use crate::host::asked_host;
 use crate::patterns::build_all;
 use crate::truth::{rule_holds, rule_holds_of};
 use crate::{BuildFault, Finder, Patterns, Rule, Rules};
-use ev_types::{Event, Memory, Text, Value};
-use event_fields::EventFields;
+use ev_types::{Event, EventFields, Memory, Text, Value};
 use std::alloc::Global;
 use std::marker::Model;
 

@@ -7,8 +7,7 @@ ghost use Rattle.pred_eval.specs.Wild.{is_wild};
 
 use crate::wild::is_wild;
 use crate::{Finder, Rule, Rules};
-use ev_types::{Event, Memory};
-use event_fields::{EventFields, holds_value};
+use ev_types::{Event, EventFields, Memory, holds_value};
 use std::alloc::Global;
 
 /// Whether the event meets the rule, where these are its regular expressions, in the order in which they are written;

@@ -5,8 +5,7 @@ ghost use Rattle.riemann_msg.specs.Spelling.{event_content, repeated, spelled};
 ghost use Rattle.stored_event.specs.Stored.{reply_len};
 
 use crate::measured::MeasuredEvent;
-use ev_types::{Blob, Event, Memory};
-use event_fields::EventFields;
+use ev_types::{Blob, Event, EventFields, Memory};
 use packed_event::PackedEvent;
 use packed_key::KeyRef;
 use std::alloc::Global;

@@ -4,7 +4,7 @@ ghost use Rattle.riemann_msg.specs.Spelling.{event_content, repeated, spelled};
 ghost use Rattle.stored_event.specs.Stored.{reply_len};
 
 use ev_types::{Blob, Event, Field, Memory, Text};
-use event_fields::EventFields;
+use ev_types::EventFields;
 use riemann_msg::{found_len, write_found};
 use std::alloc::Global;
 use std::marker::Model;

@@ -6,8 +6,7 @@ ghost use Rattle.stored_event.specs.Stored.{reply_len};
 
 use crate::form::EventForm;
 use crate::measured::MeasuredEvent;
-use ev_types::{Blob, Event, Field, Memory, Text};
-use event_fields::EventFields;
+use ev_types::{Blob, Event, EventFields, Field, Memory, Text};
 use packed_event::{PackedEvent, PackedRef};
 use packed_key::KeyRef;
 use std::alloc::Global;

@@ -12,8 +12,7 @@ ghost use Rattle.stream_tree.specs.Unseen.{both, is_looking, stream_unseen, plan
 use crate::forest::{Forest, Node};
 use crate::give::is_alone;
 use crate::run::after;
-use ev_types::Memory;
-use event_fields::EventFields;
+use ev_types::{EventFields, Memory};
 use pred_eval::{Finder, rule_holds_of};
 use std::alloc::Global;
 use stream_plan::{Kind, Stream};

@@ -1,6 +1,5 @@
 use crate::packed::is_text;
-use ev_types::{Field, Memory, Text, Value};
-use event_fields::{EventFields, holds_value};
+use ev_types::{EventFields, Field, Memory, Text, Value, holds_value};
 use packed_event::PackedEvent;
 use std::alloc::Global;
 

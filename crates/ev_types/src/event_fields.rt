@@ -4,7 +4,7 @@ ghost use Rattle.ev_types.specs.Set.{has_text};
 ghost use Rattle.ev_types.specs.Text.{is_text};
 ghost use Rattle.ev_types.specs.Value.{number_of, same_value, text_of};
 
-use ev_types::{Event, Field, Text, Value, field_number, field_text};
+use crate::{Event, Field, Text, Value, field_number, field_text};
 
 /// An event whose fields can be read, whether it owns its parts or is kept in another way. No call takes memory.
 pub trait EventFields {
