@@ -1,5 +1,5 @@
 //! What is known of the forks of a table, as one small value.
-ghost use Rattle.std.specs.Prelude.{◌≡◌, ◌+◌, ◌≤◌, ◌<◌, ◌++◌, ◌↔◌, [], length, unwrap_or, None, Some, IsSome, IsTrue, IsOk, IfOk, IfSome, IfNone, OnOk, OnErr};
+ghost use Rattle.std.specs.Prelude.{◌≡◌, ◌+◌, ◌≤◌, ◌<◌, ◌++◌, ◌↔◌, [], length, unwrap_or, None, Some, IsTrue, IsOk, IfOk, IfSome, IfNone, OnOk, OnErr};
 ghost use Rattle.std.specs.List.{All};
 ghost use Rattle.ev_types.specs.Key.{event_key};
 ghost use Rattle.list_laws.specs.Prefix.{IsPrefix};

@@ -6,7 +6,7 @@ ghost use Rattle.list_laws.specs.Prefix.{IsPrefix};
 ghost use Rattle.ev_types.specs.Key.{same_key, event_key};
 ghost use Rattle.linked_slots.specs.IdLists.{list_at, times, append_to, first_of, last_of};
 ghost use Rattle.tick_schedule.specs.Queue.{IsLeast};
-ghost use Rattle.fork_by.specs.Labels.{IsLive, IsLatest, number_of, index_at, last_moment_at, dues_set, due_numbers, dues_cleared, due_moments, AreSound, Adds, Touches, Drops, dropped};
+ghost use Rattle.fork_by.specs.Labels.{IsLive, number_of, index_at, last_moment_at, dues_set, due_numbers, dues_cleared, due_moments, AreSound, Adds, Touches, Drops, dropped};
 ghost use Rattle.fork_by.specs.Register.{latest_of, idle_among, TakesOut};
 ghost use Rattle.fork_by.specs.Slots.{slot_at};
 ghost use Rattle.indexmap.specs.IndexMap.{get};

@@ -1,7 +1,6 @@
 //! One attribute.
 
 ghost use Rattle.std.specs.Prelude.{◌≡◌, ◌<◌, length, if◌then◌else◌, option_copied, IfOk, IfSome};
-ghost use Rattle.std.specs.Option.{option_map};
 ghost use Rattle.std.specs.Str.{IsUtf8, bytes_eq};
 ghost use Rattle.riemann_msg.specs.ReadBack.{IsWellFormedAttribute};
 ghost use Rattle.packed_event.specs.Reading.{Gives, attribute_in, attribute_part, required, text_part};

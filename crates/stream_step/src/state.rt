@@ -1,4 +1,4 @@
-ghost use Rattle.std.specs.Prelude.{◌≡◌, ℕ, true, false, ◌≤◌, ◌+◌, ◌^◌, List, [], ◌++◌, length, Option, IfOk, OnOk};
+ghost use Rattle.std.specs.Prelude.{◌≡◌, ℕ, true, false, ◌≤◌, ◌+◌, ◌^◌, List, ◌++◌, length, Option, IfOk, OnOk};
 ghost use Rattle.ev_types.specs.declared.field.Field.{Field};
 ghost use Rattle.list_laws.specs.Counts.{greatest};
 ghost use Rattle.stream_meaning.specs.Deadlines.{next_deadline};
