@@ -11,14 +11,14 @@ ghost use Rattle.journal_links.specs.Resuming.{Resumes};
 ghost use Rattle.turn_journal.specs.Beginning.{blank_end};
 ghost use Rattle.turn_journal.specs.Loading.{HasFaultCause, IsSyncedOrNot, IsWhyRefused};
 ghost use Rattle.turn_journal.specs.Standing.{IsReady};
-ghost use Rattle.turn_replay.specs.Reading.{IsWhole, has_event};
+ghost use Rattle.journal_links.specs.Reading.{IsWhole, has_event};
 
 use disk_port::Disk;
 use ev_types::{Blob, Text};
 use journal_format::Found;
+use journal_links::{TurnRecords, read_journal};
 use std::alloc::Global;
 use turn_journal::{JournalFault, begin_on, load_on};
-use turn_replay::{TurnRecords, read_journal};
 
 /// Opens the file of the name, and begins a journal of this configuration in it. It gives the end of the journal.
 pub(crate) fn begin_in<D: Disk>(

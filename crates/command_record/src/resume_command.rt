@@ -11,7 +11,7 @@ ghost use Rattle.journal_format.specs.Limits.{config_limit};
 ghost use Rattle.ports.specs.Counts.{Rose};
 ghost use Rattle.ports.specs.Reading.{StoreReport};
 ghost use Rattle.turn_journal.specs.Standing.{IsReady};
-ghost use Rattle.turn_replay.specs.Reading.{has_event};
+ghost use Rattle.journal_links.specs.Reading.{has_event};
 
 use crate::ending::{JournalEnding, ending_of_fault, ending_of_run, report_ending};
 use crate::journal::{Loaded, load_from};

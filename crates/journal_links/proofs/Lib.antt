@@ -1,3 +1,5 @@
+pub mod OpenedLaws
+pub mod ReadLaws
 pub mod PassLaws
 pub mod CallLaws
 pub mod GiveLaws

@@ -1,6 +1,5 @@
 -- What is read of the journal that was loaded.
-use Rattle.std.proofs.Common.{Err, ◌≡◌, ℕ, ◌+◌, Bool, subst, List, [], ◌∷◌, ◌++◌, take, length, ap, sym, ◌∙◌}
-use Rattle.std.proofs.Common.{append_assoc, length-append, arith}
+use Rattle.std.proofs.Common.{Err, ◌≡◌, ℕ, ◌+◌, Bool, subst, List, [], ◌∷◌, ◌++◌, take, length, ap, sym, ◌∙◌, append_assoc, length-append, arith}
 use Rattle.std.proofs.lemmas.List.{take-append-le, take_all}
 use Rattle.disk_port.specs.Past.{Past, synced}
 use Rattle.journal_format.specs.declared.finder.Found.{Found}
@@ -10,7 +9,7 @@ use Rattle.turn_journal.specs.Loading.{IsLoaded, IsWhyRefused}
 use Rattle.turn_journal.specs.Standing.{Stands}
 use Rattle.turn_journal.specs.declared.fault.JournalFault.{JournalFault}
 use Rattle.turn_journal.specs.declared.fault.JournalFault.TheVariants.{Refused, DiskFault, Memory}
-use Rattle.turn_replay.specs.Reading.{IsOrMemory, IsWhole}
+use Rattle.journal_links.specs.Reading.{IsOrMemory, IsWhole}
 
 -- the bytes that were loaded are the journal with its closed gate
 pub loaded_whole : (past : Past) (found : Found) (bytes : List ℕ) (at : IsLoaded past found bytes)

@@ -1,6 +1,5 @@
 -- What one call of links that keep a journal does.
-use Rattle.std.specs.Prelude.{◌≡◌, ◌⊎◌, ℕ, ◌-◌, ◌<◌, Bool, true, false, nat_le, nat_lt, ◌&&◌, List, ◌∷◌, length, drop}
-use Rattle.std.specs.Prelude.{slice_get, Option, Some, None}
+use Rattle.std.specs.Prelude.{◌≡◌, ◌⊎◌, ℕ, ◌-◌, ◌<◌, Bool, true, false, nat_le, nat_lt, ◌&&◌, List, ◌∷◌, length, drop, slice_get, Option, Some, None}
 use Rattle.journal_format.specs.declared.turn_record.Summary.{Summary}
 use Rattle.journal_format.specs.declared.turn_record.TurnRecord.{TurnRecord}
 use Rattle.ports.specs.Calls.{AddsCalls}
@@ -16,8 +15,8 @@ use Rattle.ports.specs.declared.links.What.TheVariants.{Broken, Memory, Opened}
 use Rattle.recorded_links.specs.Keeping.{is_ready}
 use Rattle.recorded_links.specs.Numbers.{inner_number}
 use Rattle.recorded_links.specs.Steps.{CloseStep, ListenStep, NextStep, OwnStep, Rests, Seen, SendStep, Unsent}
-use Rattle.replayed_links.specs.Opened.{closed_after, opened_after}
-use Rattle.turn_replay.specs.Replaying.{GivesListen, GivesNext, answer_again, left_after}
+use Rattle.journal_links.specs.Opened.{closed_after, opened_after}
+use Rattle.journal_links.specs.Replaying.{GivesListen, GivesNext, answer_again, left_after}
 
 -- how far the turns of the journal were given again
 pub record Progress : Type 0 where

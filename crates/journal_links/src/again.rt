@@ -5,14 +5,13 @@ ghost use Rattle.journal_format.specs.declared.turn_record.TurnRecord.{TurnRecor
 ghost use Rattle.journal_links.specs.Steps.{HandsAgain, last_secs};
 ghost use Rattle.ports.specs.Links.{IsPieceWithin, is_failed_turn, is_memory_turn};
 ghost use Rattle.recorded_links.specs.Keeping.{is_ready};
-ghost use Rattle.replayed_links.specs.Opened.{opened_after};
-ghost use Rattle.turn_replay.specs.Replaying.{GivesListen, GivesNext, what_of};
+ghost use Rattle.journal_links.specs.Opened.{opened_after};
+ghost use Rattle.journal_links.specs.Replaying.{GivesListen, GivesNext, what_of};
 
+use crate::{OpenLinks, Replay};
 use ev_types::Memory;
 use journal_format::TurnEvent;
 use ports::{ListenAnswer, PIECE_LIMIT, Turn, What};
-use replayed_links::OpenLinks;
-use turn_replay::Replay;
 
 /// Hands out an answer of the inner links to `listen`, with the second of the journal's first record.
 pub(crate) fn first_answer(replay: &mut Replay, asked: ListenAnswer) -> ListenAnswer

@@ -5,8 +5,14 @@ mod again;
 mod law;
 mod links;
 mod make;
+mod opened;
+mod reading;
+mod replay;
 mod room;
 
 pub use law::{journals_have_turns, turns_are_kept};
 pub use links::JournalLinks;
+pub use opened::{OpenLinks, last_opened};
+pub use reading::{TurnRecords, read_journal};
+pub use replay::Replay;
 pub use room::JournalRoom;

@@ -12,16 +12,15 @@ ghost use Rattle.recorded_links.specs.Keeping.{FailedIf};
 ghost use Rattle.recorded_links.specs.Numbers.{first_after, inner_number};
 ghost use Rattle.recorded_links.specs.Seeing.{disk_of, seen_of};
 ghost use Rattle.recorded_links.specs.Steps.{OwnStep, own_report};
-ghost use Rattle.replayed_links.specs.Opened.{Passes, closed_after, is_before};
+ghost use Rattle.journal_links.specs.Opened.{Passes, closed_after, is_before};
 
 use crate::again::{first_answer, last_secs, next_turn};
+use crate::{OpenLinks, Replay};
 use disk_port::Disk;
 use ev_types::{Blob, Text};
 use ports::{Links, ListenAnswer, PIECE_LIMIT, SendAnswer, Turn, Wants, What};
 use recorded_links::{CallLog, RecordedLinks, log_listen, log_send, log_turn};
-use replayed_links::OpenLinks;
 use std::alloc::Global;
-use turn_replay::Replay;
 
 /// The links of a server that keeps a journal. First they give the turns that the journal had, and then those of the
 /// links that are lent, each of which is recorded before it is handed out. Contracts see what calls were made of links

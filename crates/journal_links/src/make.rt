@@ -2,14 +2,13 @@
 
 use crate::links::JournalLinks;
 use crate::room::JournalRoom;
+use crate::{OpenLinks, Replay, last_opened, read_journal};
 use disk_port::Disk;
 use ev_types::Blob;
 use ports::Links;
 use recorded_links::RecordedLinks;
-use replayed_links::{OpenLinks, last_opened};
 use std::alloc::Global;
 use turn_journal::{JournalFault, JournalFile, begin_on, load_on};
-use turn_replay::{Replay, read_journal};
 
 impl<'a, L: Links, D: Disk> JournalLinks<'a, L, D> {
     ghost use Rattle.std.specs.Prelude.{◌≡◌, ◌≤◌, [], false, length, IfErr, IfOk, OnOk};
@@ -19,10 +18,10 @@ impl<'a, L: Links, D: Disk> JournalLinks<'a, L, D> {
     ghost use Rattle.journal_links.specs.Resuming.{Resumes};
     ghost use Rattle.journal_links.specs.Seeing.{end_of};
     ghost use Rattle.recorded_links.specs.Seeing.{disk_of, seen_of};
-    ghost use Rattle.replayed_links.specs.Opened.{first_free};
+    ghost use Rattle.journal_links.specs.Opened.{first_free};
     ghost use Rattle.turn_journal.specs.Beginning.{HoldsBlankOrFree, IsFree, IsWhyTaken, LeavesAfterSync, StandsBlank};
     ghost use Rattle.turn_journal.specs.Loading.{IsWhyRefused};
-    ghost use Rattle.turn_replay.specs.Replaying.{summaries_next};
+    ghost use Rattle.journal_links.specs.Replaying.{summaries_next};
 
     /// Begins a journal of this configuration in the disk's file, and records all turns in it. What is known of the
     /// disk after an error [`turn_journal::begin_on`] says.

@@ -1,10 +1,9 @@
 //! Memory that links with a journal are lent.
 
+use crate::{OpenLinks, Replay};
 use ev_types::Blob;
 use recorded_links::TurnRoom;
-use replayed_links::OpenLinks;
 use std::alloc::Global;
-use turn_replay::Replay;
 
 /// Room for what links with a journal read of it, note and write.
 #[derive(Drop)]

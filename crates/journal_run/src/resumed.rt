@@ -8,11 +8,11 @@ ghost use Rattle.journal_run.specs.Recorded.{run_result};
 ghost use Rattle.journal_run.specs.Resumed.{RunsResumed};
 ghost use Rattle.list_laws.specs.Counts.{Rose};
 ghost use Rattle.recorded_links.specs.Numbers.{first_after};
-ghost use Rattle.replayed_links.specs.Opened.{first_free};
+ghost use Rattle.journal_links.specs.Opened.{first_free};
 ghost use Rattle.resumed_runs.specs.Making.{Made, state_of};
 ghost use Rattle.turn_journal.specs.Standing.{IsWithin};
-ghost use Rattle.turn_replay.specs.Reading.{has_event};
-ghost use Rattle.turn_replay.specs.Replaying.{summaries_next};
+ghost use Rattle.journal_links.specs.Reading.{has_event};
+ghost use Rattle.journal_links.specs.Replaying.{summaries_next};
 
 use crate::fault::JournalRunFault;
 use crate::recorded::ended_so;
@@ -21,17 +21,15 @@ use ev_types::Blob;
 use hub_run::conn_core::Hub;
 use hub_run::{Setup, run_quietly};
 use journal_format::Found;
-use journal_links::JournalLinks;
+use journal_links::{JournalLinks, OpenLinks, Replay, TurnRecords, last_opened};
 use ports::{Links, Sink};
 use pred_eval::Patterns;
 use recorded_links::{RecordedLinks, TurnRoom};
-use replayed_links::{OpenLinks, last_opened};
 use resumed_runs::{JournalLoan, ResumedLinks};
 use std::alloc::Global;
 use std::marker::Brand;
 use step_count::{Ledger, Steps};
 use turn_journal::JournalFile;
-use turn_replay::{Replay, TurnRecords};
 
 /// Runs a server over the turns of the journal in the disk's file, which is of this configuration, has these records
 /// and ends there, and then over those of the links, which are recorded in it. The lines of the journal's turns before

@@ -10,9 +10,9 @@ use Rattle.ports.specs.Calls.{LinksReport}
 use Rattle.ports.specs.declared.entry.Entry.{Entry}
 use Rattle.recorded_links.specs.Steps.{Seen}
 use Rattle.recorded_runs.specs.Making.{IsCall, none_yet, one_more, uncalled}
-use Rattle.replayed_links.specs.Opened.{first_free}
+use Rattle.journal_links.specs.Opened.{first_free}
 use Rattle.resumed_runs.specs.Making.{Made, State, resuming}
-use Rattle.turn_replay.specs.Replaying.{summaries_next}
+use Rattle.journal_links.specs.Replaying.{summaries_next}
 
 -- one call more
 pub made_more : (found : Found) (records : List TurnRecord) (links : LinksReport) (disk : DiskReport)

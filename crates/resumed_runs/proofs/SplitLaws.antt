@@ -1,6 +1,5 @@
 -- The calls of links that resume a journal: those in which its turns are handed out again, and those after them.
-use Rattle.std.proofs.Common.{◌≡◌, ◌⊎◌, inl, inr, ℕ, zero, suc, ◌+◌, ◌<◌, Bool, true, false, not, cond, List, [], ◌∷◌}
-use Rattle.std.proofs.Common.{◌++◌, drop, fold, length, refl, sym, ◌∙◌, ap, subst, append-nil, append_assoc, arith}
+use Rattle.std.proofs.Common.{◌≡◌, ◌⊎◌, inl, inr, ℕ, zero, suc, ◌+◌, ◌<◌, Bool, true, false, not, cond, List, [], ◌∷◌, ◌++◌, drop, fold, length, refl, sym, ◌∙◌, ap, subst, append-nil, append_assoc, arith}
 use Rattle.std.specs.Prelude.{nat_le}
 use Rattle.std.specs.List.{list_all}
 use Rattle.std.proofs.lemmas.Bool.{and_parts, leb-false}
@@ -21,14 +20,13 @@ use Rattle.ports.specs.declared.links.ListenAnswer.TheVariants as listen
 use Rattle.ports.specs.declared.links.Turn.{Turn}
 use Rattle.ports.specs.declared.links.Want.{Want}
 use Rattle.ports.specs.declared.links.What.{What}
-use Rattle.ports.specs.declared.links.What.TheVariants.{Idle, Opened, Read, Ended, Broken, Room, Stopped, Failed}
-use Rattle.ports.specs.declared.links.What.TheVariants.{Memory}
+use Rattle.ports.specs.declared.links.What.TheVariants.{Idle, Opened, Read, Ended, Broken, Room, Stopped, Failed, Memory}
 use Rattle.recorded_links.specs.Keeping.{entry_of, event_of, is_ready, is_recorded, listen_entry}
 use Rattle.recorded_links.specs.Noting.{Noted, after_call, after_listen, noted, with_entry}
 use Rattle.recorded_links.specs.Steps.{Seen}
 use Rattle.recorded_links.proofs.NoteLaws.{listen_noted, listen_quiet, noted_more, turn_added, turn_quiet}
 use Rattle.resumed_runs.specs.Recording.{records_after}
-use Rattle.turn_replay.specs.Replaying.{bytes_of, what_of}
+use Rattle.journal_links.specs.Replaying.{bytes_of, what_of}
 
 -- In these calls the turns of the journal were handed out, as far as they were given, and in the later ones others.
 pub record Splits (progress : Progress) (calls later : List Entry) : Type 0 where

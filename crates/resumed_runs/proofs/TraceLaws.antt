@@ -1,14 +1,10 @@
 -- What became of the journal and of the links after one call more.
-use Rattle.std.proofs.Common.{◌≡◌, inl, inr, ℕ, Bool, true, false, List, [], ◌∷◌, ◌++◌, ◌<◌, length, refl, sym, ◌∙◌, ap}
-use Rattle.std.proofs.Common.{arith, subst}
+use Rattle.std.proofs.Common.{◌≡◌, inl, inr, ℕ, Bool, true, false, List, [], ◌∷◌, ◌++◌, ◌<◌, length, refl, sym, ◌∙◌, ap, arith, subst}
 use Rattle.std.proofs.lemmas.Bool.{false_from_ne_true, leb-true}
 use Rattle.std.specs.Prelude.{Option, Some}
 use Rattle.journal_format.specs.declared.turn_record.Summary.{Summary}
 use Rattle.journal_format.specs.declared.turn_record.TurnRecord.{TurnRecord}
-use Rattle.journal_links.specs.Steps.{CloseOf, GivesAgain, ListenOf, NextOf, Progress, SendOf, close_again}
-use Rattle.journal_links.specs.Steps.{close_passed, is_over, last_secs, listen_again, listen_first, listen_unasked}
-use Rattle.journal_links.specs.Steps.{next_again, next_broken, next_inner, next_unasked, send_again, send_memory}
-use Rattle.journal_links.specs.Steps.{send_passed}
+use Rattle.journal_links.specs.Steps.{CloseOf, GivesAgain, ListenOf, NextOf, Progress, SendOf, close_again, close_passed, is_over, last_secs, listen_again, listen_first, listen_unasked, next_again, next_broken, next_inner, next_unasked, send_again, send_memory, send_passed}
 use Rattle.ports.specs.Calls.{AddsCalls, LinksReport}
 use Rattle.ports.specs.Links.{listen_entries, next_entries, send_entries}
 use Rattle.ports.specs.declared.entry.Entry.{Entry}
@@ -33,16 +29,12 @@ use Rattle.recorded_runs.specs.Passing.{closed_own, stops, unasked}
 use Rattle.recorded_runs.proofs.CallLaws.{keeps_listen, keeps_next}
 use Rattle.recorded_runs.proofs.GivenLaws.{may_close_step, may_none, may_send_step, may_still}
 use Rattle.recorded_runs.proofs.JournalLaws.{keeps_begun, keeps_same}
-use Rattle.replayed_links.specs.Opened.{first_free}
-use Rattle.resumed_runs.specs.Asking.{AsksFor, IsAfter, IsAgain, breaks, closes_again, closes_inner, gives_again}
-use Rattle.resumed_runs.specs.Asking.{listens_again, none_again, none_made, one_after, one_again, passes_on}
-use Rattle.resumed_runs.specs.Asking.{sends_again}
+use Rattle.journal_links.specs.Opened.{first_free}
+use Rattle.resumed_runs.specs.Asking.{AsksFor, IsAfter, IsAgain, breaks, closes_again, closes_inner, gives_again, listens_again, none_again, none_made, one_after, one_again, passes_on, sends_again}
 use Rattle.resumed_runs.specs.Making.{State, resuming, unresumed}
 use Rattle.resumed_runs.proofs.OwnLaws.{broken_at, keeps_own}
-use Rattle.resumed_runs.proofs.SplitLaws.{Splits, again_turn, splits_after, splits_again, splits_begun}
-use Rattle.resumed_runs.proofs.SplitLaws.{splits_listen, splits_still}
-use Rattle.resumed_runs.proofs.StepLaws.{AsksOnce, asks_none, close_asks, listen_asks, memory_next, next_asks}
-use Rattle.resumed_runs.proofs.StepLaws.{send_asks, unsent_asks}
+use Rattle.resumed_runs.proofs.SplitLaws.{Splits, again_turn, splits_after, splits_again, splits_begun, splits_listen, splits_still}
+use Rattle.resumed_runs.proofs.StepLaws.{AsksOnce, asks_none, close_asks, listen_asks, memory_next, next_asks, send_asks, unsent_asks}
 
 -- Of links that resume a journal with these records: what became of it and of the links since these were lent.
 pub record Traces (first : ℕ) (lent : Lent) (records : List TurnRecord) (calls : List Entry) (seen : Seen)

@@ -16,7 +16,7 @@ use Rattle.recorded_links.specs.Keeping.{HandsOut, is_recorded}
 use Rattle.recorded_links.specs.Numbers.{inner_number}
 use Rattle.recorded_links.specs.Noting.{noted}
 use Rattle.recorded_runs.specs.Passing.{IsPassed}
-use Rattle.replayed_links.specs.Opened.{first_free}
+use Rattle.journal_links.specs.Opened.{first_free}
 use Rattle.resumed_runs.specs.Recording.{records_after}
 
 -- One call while turns of the journal are left, as an entry of the log, and the call of the inner links that was made

@@ -13,8 +13,8 @@ use Rattle.ports.specs.declared.links.Links.{Ghosts as Links}
 use Rattle.recorded_links.specs.Seeing.{seen_of}
 use Rattle.recorded_links.specs.Steps.{Seen}
 use Rattle.recorded_runs.specs.Making.{AreCalls, Steps, uncalled}
-use Rattle.replayed_links.specs.Opened.{first_free}
-use Rattle.turn_replay.specs.Replaying.{summaries_next}
+use Rattle.journal_links.specs.Opened.{first_free}
+use Rattle.journal_links.specs.Replaying.{summaries_next}
 
 -- the links and the journal, and how far its turns were given again
 pub record State : Type 0 where

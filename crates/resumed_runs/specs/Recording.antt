@@ -10,7 +10,7 @@ use Rattle.ports.specs.declared.entry.Entry.{Entry}
 use Rattle.recorded_links.specs.Noting.{noted}
 use Rattle.recorded_runs.specs.Giving.{MayFollow}
 use Rattle.recorded_runs.specs.Recording.{AreRecorded}
-use Rattle.replayed_links.specs.Opened.{first_free}
+use Rattle.journal_links.specs.Opened.{first_free}
 
 -- The turns that were handed out are the first of the journal's, or all of them and then others.
 abbrev pub BeginAgain : Journal → List Entry → Type 0

@@ -1,14 +1,14 @@
 ghost use Rattle.std.specs.Prelude.{◌≡◌, true};
 ghost use Rattle.std.specs.List.{list_all};
-ghost use Rattle.turn_replay.specs.Reading.{has_event};
+ghost use Rattle.journal_links.specs.Reading.{has_event};
 
 use crate::formats::CONFIG;
 use crate::recorded::{RECORDED, buffer};
 use ev_types::Memory;
+use journal_links::{Replay, TurnRecords, read_journal};
 use ports::{PIECE_LIMIT, SendAnswer, Turn, What};
 use std::alloc::Global;
 use turn_journal::JournalFault;
-use turn_replay::{Replay, TurnRecords, read_journal};
 
 /// Whether the bytes begin with the two that were read.
 fn is_hi(bytes: &[u8]) -> bool {

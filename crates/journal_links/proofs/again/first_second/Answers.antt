@@ -1,5 +1,5 @@
 use Rattle.std.proofs.Common.{◌≡◌, ℕ, drop, subst}
-use Rattle.turn_replay.specs.Replaying.{GivesListen}
+use Rattle.journal_links.specs.Replaying.{GivesListen}
 use Rattle.journal_links.proofs.again.first_second.Goals as goal
 
 pub returns-in-Ok-clause-gives : goal.returns-in-Ok-clause-gives

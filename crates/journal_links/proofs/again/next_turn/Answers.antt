@@ -1,6 +1,6 @@
 use Rattle.std.proofs.Common.{ap}
 use Rattle.ports.specs.declared.links.Turn.{Turn}
-use Rattle.turn_replay.specs.Reading.{has_event}
+use Rattle.journal_links.specs.Reading.{has_event}
 use Rattle.journal_links.proofs.GiveLaws.{gives_turn}
 use Rattle.journal_links.proofs.again.next_turn.Goals as goal
 

@@ -1,6 +1,6 @@
 use Rattle.std.proofs.Common.{ap, sym, ◌∙◌}
 use Rattle.ports.specs.declared.links.Turn.{Turn}
-use Rattle.replayed_links.specs.Opened.{opened_after}
+use Rattle.journal_links.specs.Opened.{opened_after}
 use Rattle.journal_links.proofs.again.note_and_give.Goals as goal
 
 pub returns-clause-gives : goal.returns-clause-gives

@@ -5,7 +5,7 @@ use Rattle.journal_links.proofs.PassLaws.{passes_listen_here, same_last}
 use Rattle.ports.specs.Links.{listen_entries}
 use Rattle.recorded_links.specs.Numbers.{first_after}
 use Rattle.recorded_links.proofs.StepLaws.{own_calls}
-use Rattle.replayed_links.specs.Opened.{Passes}
+use Rattle.journal_links.specs.Opened.{Passes}
 use Rattle.journal_links.proofs.links.JournalLinks.listen_again.Goals as goal
 
 pub returns-clause-adds : goal.returns-clause-adds

@@ -3,7 +3,7 @@ use Rattle.disk_port.specs.Past.{text_of}
 use Rattle.journal_format.specs.declared.turn_record.TurnRecord.{TurnRecord}
 use Rattle.journal_links.proofs.ResumeLaws.{loaded_whole, never_refused, resumes}
 use Rattle.turn_journal.proofs.AppendLaws.{ready_within}
-use Rattle.turn_replay.specs.Reading.{IsWhole}
+use Rattle.journal_links.specs.Reading.{IsWhole}
 use Rattle.journal_links.proofs.links.JournalLinks.resume.Goals as goal
 
 pub over-journal-requires : goal.over-journal-requires

@@ -5,7 +5,7 @@ use Rattle.journal_links.proofs.PassLaws.{passes_quiet, passes_turn, passes_turn
 use Rattle.ports.specs.Calls.{LinksReport}
 use Rattle.ports.specs.Links.{is_failed_turn, next_entries}
 use Rattle.recorded_links.specs.Numbers.{first_after}
-use Rattle.turn_replay.specs.declared.replay.Replay.{Replay}
+use Rattle.journal_links.specs.declared.replay.Replay.{Replay}
 use Rattle.journal_links.proofs.links.JournalLinks.turn.Goals as goal
 
 pub returns-then-not-is_over-clause-adds : goal.returns-then-not-is_over-clause-adds

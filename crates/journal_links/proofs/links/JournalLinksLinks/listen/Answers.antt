@@ -3,7 +3,7 @@ use Rattle.journal_links.proofs.CallLaws.{logged}
 use Rattle.ports.specs.Links.{listen_entries}
 use Rattle.ports.specs.declared.entry.Entry.{Entry}
 use Rattle.recorded_links.specs.Numbers.{first_after}
-use Rattle.replayed_links.specs.Opened.{Passes}
+use Rattle.journal_links.specs.Opened.{Passes}
 use Rattle.journal_links.proofs.links.JournalLinksLinks.listen.Goals as goal
 
 pub returns-clause-adds : goal.returns-clause-adds

@@ -5,7 +5,7 @@ ghost use Rattle.std.specs.List.{list_all};
 ghost use Rattle.std.specs.Option.{option_map};
 ghost use Rattle.journal_format.specs.Journals.{Journal};
 ghost use Rattle.journal_format.specs.declared.turn_record.TurnRecord.{TurnRecord};
-ghost use Rattle.turn_replay.specs.Reading.{ArePair, EndWith, Heads, IsOrMemory, IsWhole, has_event};
+ghost use Rattle.journal_links.specs.Reading.{ArePair, EndWith, Heads, IsOrMemory, IsWhole, has_event};
 
 use ev_types::{Blob, Items};
 use journal_format::{TurnRecord, Unread, read_record};

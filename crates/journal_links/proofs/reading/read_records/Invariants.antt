@@ -1,8 +1,8 @@
 use Rattle.std.proofs.Common.{◌≡◌, true, List, length}
 use Rattle.std.specs.List.{list_all}
 use Rattle.journal_format.specs.declared.turn_record.TurnRecord.{TurnRecord}
-use Rattle.turn_replay.specs.Reading.{AreLeft, EndWith, has_event}
-use Rattle.turn_replay.proofs.reading.read_records.Given as goal
+use Rattle.journal_links.specs.Reading.{AreLeft, EndWith, has_event}
+use Rattle.journal_links.proofs.reading.read_records.Given as goal
 
 abbrev pub invariant-records : goal.invariant-records
 invariant-records l =

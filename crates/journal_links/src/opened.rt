@@ -3,7 +3,7 @@
 ghost use Rattle.std.specs.Prelude.{◌≡◌, max, true, [], slice_get, OnOk, OnErr};
 ghost use Rattle.std.specs.List.{list_all};
 ghost use Rattle.recorded_links.specs.Numbers.{first_after};
-ghost use Rattle.replayed_links.specs.Opened.{closed_after, first_free, is_before, number_after, opened_after};
+ghost use Rattle.journal_links.specs.Opened.{closed_after, first_free, is_before, number_after, opened_after};
 
 use ev_types::Memory;
 use journal_format::{TurnEvent, TurnRecord};

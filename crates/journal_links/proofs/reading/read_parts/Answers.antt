@@ -1,7 +1,7 @@
 use Rattle.std.proofs.Common.{◌≡◌, List, ℕ, rules}
 use Rattle.journal_format.specs.declared.turn_record.TurnRecord.{TurnRecord}
-use Rattle.turn_replay.proofs.ReadLaws.{pair_is, same_fault}
-use Rattle.turn_replay.proofs.reading.read_parts.Goals as goal
+use Rattle.journal_links.proofs.ReadLaws.{pair_is, same_fault}
+use Rattle.journal_links.proofs.reading.read_parts.Goals as goal
 
 pub returns-in-Ok-clause-read : goal.returns-in-Ok-clause-read
 returns-in-Ok-clause-read c = λ all ends.

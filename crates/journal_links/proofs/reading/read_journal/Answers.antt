@@ -1,8 +1,8 @@
 use Rattle.std.proofs.Common.{List, ℕ, true, subst, sym}
 use Rattle.journal_format.specs.declared.turn_record.TurnRecord.{TurnRecord}
-use Rattle.turn_replay.specs.Reading.{EndWith, IsOrMemory}
-use Rattle.turn_replay.proofs.ReadLaws.{whole_parts}
-use Rattle.turn_replay.proofs.reading.read_journal.Goals as goal
+use Rattle.journal_links.specs.Reading.{EndWith, IsOrMemory}
+use Rattle.journal_links.proofs.ReadLaws.{whole_parts}
+use Rattle.journal_links.proofs.reading.read_journal.Goals as goal
 
 pub returns-in-Some-clause-read : goal.returns-in-Some-clause-read
 returns-in-Some-clause-read c = λ journal is.

@@ -5,8 +5,8 @@ ghost use Rattle.std.specs.List.{list_all};
 ghost use Rattle.journal_format.specs.declared.turn_record.TurnRecord.{TurnRecord};
 ghost use Rattle.ports.specs.Links.{IsPieceWithin, IsWithin, piece_of};
 ghost use Rattle.recorded_links.specs.Sending.{place_of};
-ghost use Rattle.turn_replay.specs.Reading.{has_event, is_event};
-ghost use Rattle.turn_replay.specs.Replaying.{GivesListen, GivesNext, answer_again, answer_of, bytes_of, last_answer, left_after, summaries_next, what_of};
+ghost use Rattle.journal_links.specs.Reading.{has_event, is_event};
+ghost use Rattle.journal_links.specs.Replaying.{GivesListen, GivesNext, answer_again, answer_of, bytes_of, last_answer, left_after, summaries_next, what_of};
 
 use crate::reading::TurnRecords;
 use ev_types::Memory;

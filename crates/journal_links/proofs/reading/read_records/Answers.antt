@@ -2,9 +2,9 @@ use Rattle.std.proofs.Common.{◌≡◌, ◌∷◌, List, true, length, rules, s
 use Rattle.std.specs.List.{list_all}
 use Rattle.journal_format.specs.declared.turn_record.TurnRecord.{TurnRecord}
 use Rattle.journal_format.specs.declared.unread.Unread.TheVariants as unread
-use Rattle.turn_replay.specs.Reading.{AreLeft, has_event}
-use Rattle.turn_replay.proofs.ReadLaws.{all_read, events_more, goes_on, never_ends, never_refused, one_follows}
-use Rattle.turn_replay.proofs.reading.read_records.Goals as goal
+use Rattle.journal_links.specs.Reading.{AreLeft, has_event}
+use Rattle.journal_links.proofs.ReadLaws.{all_read, events_more, goes_on, never_ends, never_refused, one_follows}
+use Rattle.journal_links.proofs.reading.read_records.Goals as goal
 
 pub returns-then-gate-eq0-clause-read : goal.returns-then-gate-eq0-clause-read
 returns-then-gate-eq0-clause-read c = λ all ends.

@@ -1,9 +1,9 @@
 use Rattle.std.proofs.Common.{◌≤◌, length, ap, rules, ◌∙◌}
 use Rattle.std.proofs.lemmas.List.{take_all}
 use Rattle.recorded_links.specs.Numbers.{first_after}
-use Rattle.replayed_links.specs.Opened.{first_free}
-use Rattle.replayed_links.proofs.OpenedLaws.{are_before}
-use Rattle.replayed_links.proofs.opened.last_opened.Goals as goal
+use Rattle.journal_links.specs.Opened.{first_free}
+use Rattle.journal_links.proofs.OpenedLaws.{are_before}
+use Rattle.journal_links.proofs.opened.last_opened.Goals as goal
 
 pub returns-clause-before : goal.returns-clause-before
 returns-clause-before c =
