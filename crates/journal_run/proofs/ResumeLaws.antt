@@ -20,7 +20,7 @@ use Rattle.journal_run.proofs.RunLaws.{recorded_in}
 use Rattle.ports.specs.Calls.{LinksReport}
 use Rattle.ports.specs.declared.entry.Entry.{Entry}
 use Rattle.recorded_links.specs.Steps.{Seen}
-use Rattle.recorded_runs.specs.Making.{LeadsTo, none_yet}
+use Rattle.recorded_links.specs.Making.{LeadsTo, none_yet}
 use Rattle.resumed_runs.specs.Asking.{AsksOf}
 use Rattle.resumed_runs.specs.Lending.{LentJournal}
 use Rattle.resumed_runs.specs.Making.{Made, State, resuming, unresumed}

@@ -1,6 +1,5 @@
 -- What is known of links and of a disk after a run over links that record.
-use Rattle.std.proofs.Common.{◌≡◌, ◌≢◌, ℕ, ◌+◌, ◌<◌, ◌≤◌, Bool, true, false, List, [], ◌++◌, Err, refl, sym, ◌∙◌, ap}
-use Rattle.std.proofs.Common.{subst, arith}
+use Rattle.std.proofs.Common.{◌≡◌, ◌≢◌, ℕ, ◌+◌, ◌<◌, ◌≤◌, Bool, true, false, List, [], ◌++◌, Err, refl, sym, ◌∙◌, ap, subst, arith}
 use Rattle.std.proofs.Math.Logic.{∥∥₁_map}
 use Rattle.std.specs.Prelude.{Result, Some, None}
 use Rattle.disk_port.specs.Calls.{DiskReport}
@@ -22,10 +21,10 @@ use Rattle.ports.specs.Calls.{LinksReport}
 use Rattle.ports.specs.declared.entry.Entry.{Entry}
 use Rattle.recorded_links.specs.Noting.{noted}
 use Rattle.recorded_links.specs.Steps.{Seen, seen}
-use Rattle.recorded_runs.specs.Lending.{Lent, Passed, Traces, disk_faults, traced_report}
-use Rattle.recorded_runs.specs.Giving.{MayFollow}
-use Rattle.recorded_runs.specs.Recording.{AreRecorded}
-use Rattle.recorded_runs.proofs.CrashLaws.{leaves_all, leaves_first}
+use Rattle.recorded_links.specs.Lending.{Lent, Passed, Traces, disk_faults, traced_report}
+use Rattle.recorded_links.specs.Giving.{MayFollow}
+use Rattle.recorded_links.specs.Recording.{AreRecorded}
+use Rattle.recorded_links.proofs.CrashLaws.{leaves_all, leaves_first}
 use Rattle.turn_journal.specs.Standing.{Stands}
 
 -- ---- what is lent is at last what a call left

@@ -14,12 +14,12 @@ use Rattle.journal_run.specs.declared.fault.JournalRunFault.{JournalRunFault}
 use Rattle.journal_run.specs.declared.fault.JournalRunFault.TheVariants.{Links, Disk, Sink, Memory}
 use Rattle.ports.specs.Calls.{LinksReport}
 use Rattle.ports.specs.declared.entry.Entry.{Entry}
-use Rattle.recorded_runs.specs.Giving.{MayFollow}
-use Rattle.recorded_runs.specs.Laws.{AreAll, AreFirst, HoldsMore}
-use Rattle.recorded_runs.specs.Lending.{Passed}
-use Rattle.recorded_runs.specs.Making.{LeadsTo, recording, uncalled}
+use Rattle.recorded_links.specs.Giving.{MayFollow}
+use Rattle.recorded_links.specs.Laws.{AreAll, AreFirst, HoldsMore}
+use Rattle.recorded_links.specs.Lending.{Passed}
+use Rattle.recorded_links.specs.Making.{LeadsTo, recording, uncalled}
 use Rattle.recorded_links.specs.Noting.{noted}
-use Rattle.recorded_runs.specs.Recording.{AreRecorded}
+use Rattle.recorded_links.specs.Recording.{AreRecorded}
 use Rattle.turn_journal.specs.Standing.{Stands, Told}
 
 -- how the run ended for the hub, which knows of no disk: its links failed

@@ -14,7 +14,7 @@ use Rattle.journal_run.specs.Recorded.{IsRecordedIn, run_result}
 use Rattle.journal_run.specs.declared.fault.JournalRunFault.{JournalRunFault}
 use Rattle.ports.specs.Calls.{LinksReport}
 use Rattle.ports.specs.declared.entry.Entry.{Entry}
-use Rattle.recorded_runs.specs.Making.{LeadsTo}
+use Rattle.recorded_links.specs.Making.{LeadsTo}
 use Rattle.resumed_runs.specs.Asking.{AsksOf}
 use Rattle.resumed_runs.specs.Making.{resuming, unresumed}
 use Rattle.resumed_runs.specs.Recording.{BeginAgain, MayResume, later_records}

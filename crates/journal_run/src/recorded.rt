@@ -6,7 +6,7 @@ ghost use Rattle.journal_run.specs.Recorded.{RunsRecorded, run_result};
 ghost use Rattle.list_laws.specs.Counts.{Rose};
 ghost use Rattle.recorded_links.specs.Numbers.{first_after};
 ghost use Rattle.recorded_links.specs.Seeing.{seen_of};
-ghost use Rattle.recorded_runs.specs.Lending.{Traces};
+ghost use Rattle.recorded_links.specs.Lending.{Traces};
 ghost use Rattle.turn_journal.specs.Standing.{IsWithin};
 
 use crate::fault::JournalRunFault;
@@ -16,8 +16,7 @@ use hub_run::{RunFault, Setup, run};
 use journal_format::Found;
 use ports::{Links, Sink};
 use pred_eval::Patterns;
-use recorded_links::{RecordRoom, RecordedLinks};
-use recorded_runs::{Loan, TracedLinks};
+use recorded_links::{Loan, RecordRoom, RecordedLinks, TracedLinks};
 use std::alloc::Global;
 use std::marker::Brand;
 use step_count::{Ledger, Steps};

@@ -3,3 +3,11 @@ pub mod SendLaws
 pub mod KeepLaws
 pub mod StepLaws
 pub mod NoteLaws
+pub mod GivenLaws
+pub mod JournalLaws
+pub mod CallLaws
+pub mod FaultLaws
+pub mod CrashLaws
+pub mod PassLaws
+pub mod TraceLaws
+pub mod LastLaws

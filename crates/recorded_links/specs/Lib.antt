@@ -5,3 +5,9 @@ pub mod Keeping
 pub mod Noting
 pub mod Steps
 pub mod Seeing
+pub mod Passing
+pub mod Giving
+pub mod Recording
+pub mod Making
+pub mod Lending
+pub mod Laws

@@ -7,9 +7,7 @@ use Rattle.journal_format.specs.Journals.{Journal}
 use Rattle.journal_format.specs.declared.finder.Found.{Found}
 use Rattle.journal_format.specs.declared.turn_record.TurnRecord.{TurnRecord}
 use Rattle.journal_links.specs.Resuming.{Resumes}
-use Rattle.journal_links.specs.Steps.{CloseOf, NextOf, Progress, SendOf, close_again, close_passed, last_secs}
-use Rattle.journal_links.specs.Steps.{next_again, next_broken, next_inner, next_unasked, progress_of, send_again}
-use Rattle.journal_links.specs.Steps.{send_memory, send_passed}
+use Rattle.journal_links.specs.Steps.{CloseOf, NextOf, Progress, SendOf, close_again, close_passed, last_secs, next_again, next_broken, next_inner, next_unasked, progress_of, send_again, send_memory, send_passed}
 use Rattle.journal_links.specs.Turns.{AreTurns, BeginsWithListen, PlainTurn, handed, turns_in}
 use Rattle.journal_links.proofs.KeepLaws.{resumed_keeps}
 use Rattle.ports.specs.Calls.{LinksReport}
@@ -22,12 +20,12 @@ use Rattle.recorded_links.specs.Keeping.{Kept, is_recorded, kept_of}
 use Rattle.recorded_links.specs.Noting.{Noted, noted}
 use Rattle.recorded_links.specs.Steps.{OwnStep, Seen}
 use Rattle.recorded_links.proofs.NoteLaws.{close_noted, send_noted}
-use Rattle.recorded_runs.specs.Giving.{MayFollow}
-use Rattle.recorded_runs.specs.Lending.{Keeps, Lent}
-use Rattle.recorded_runs.specs.Making.{handed_out, then_closed, then_sent}
-use Rattle.recorded_runs.specs.Recording.{AreRecorded, with_records}
-use Rattle.recorded_runs.proofs.CallLaws.{keeps_handed}
-use Rattle.recorded_runs.proofs.JournalLaws.{keeps_same}
+use Rattle.recorded_links.specs.Giving.{MayFollow}
+use Rattle.recorded_links.specs.Lending.{Keeps, Lent}
+use Rattle.recorded_links.specs.Making.{handed_out, then_closed, then_sent}
+use Rattle.recorded_links.specs.Recording.{AreRecorded, with_records}
+use Rattle.recorded_links.proofs.CallLaws.{keeps_handed}
+use Rattle.recorded_links.proofs.JournalLaws.{keeps_same}
 use Rattle.resumed_runs.specs.Asking.{AsksFor}
 use Rattle.resumed_runs.specs.Laws.{CallsArePassed, LastTurnIsKept, TurnsAreRecorded}
 use Rattle.resumed_runs.specs.Making.{State}

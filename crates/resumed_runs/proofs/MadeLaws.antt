@@ -9,7 +9,7 @@ use Rattle.journal_links.specs.Steps.{Progress, progress_of}
 use Rattle.ports.specs.Calls.{LinksReport}
 use Rattle.ports.specs.declared.entry.Entry.{Entry}
 use Rattle.recorded_links.specs.Steps.{Seen}
-use Rattle.recorded_runs.specs.Making.{IsCall, none_yet, one_more, uncalled}
+use Rattle.recorded_links.specs.Making.{IsCall, none_yet, one_more, uncalled}
 use Rattle.journal_links.specs.Opened.{first_free}
 use Rattle.resumed_runs.specs.Making.{Made, State, resuming}
 use Rattle.journal_links.specs.Replaying.{summaries_next}

@@ -13,10 +13,10 @@ use Rattle.recorded_links.specs.Keeping.{AddsRecord, entry_of, is_recorded}
 use Rattle.recorded_links.specs.Noting.{noted, with_entry}
 use Rattle.recorded_links.specs.Steps.{OwnStep, Seen, TakesOwn, own_full, own_refused, own_taken}
 use Rattle.recorded_links.proofs.NoteLaws.{turn_added, turn_quiet}
-use Rattle.recorded_runs.specs.Giving.{MayFollow}
-use Rattle.recorded_runs.specs.Lending.{Keeps, Lent}
-use Rattle.recorded_runs.proofs.GivenLaws.{may_still}
-use Rattle.recorded_runs.proofs.JournalLaws.{keeps_added, keeps_lost, keeps_same}
+use Rattle.recorded_links.specs.Giving.{MayFollow}
+use Rattle.recorded_links.specs.Lending.{Keeps, Lent}
+use Rattle.recorded_links.proofs.GivenLaws.{may_still}
+use Rattle.recorded_links.proofs.JournalLaws.{keeps_added, keeps_lost, keeps_same}
 
 abbrev pub broken_at : ℕ → ℕ → Turn
 broken_at secs link = record { secs = secs; what = Broken link }

@@ -1,15 +1,13 @@
 -- How calls of links that resume a run change the counts of faults.
 use Rattle.std.proofs.Common.{◌≡◌, ℕ, ◌≤◌, List, ap, arith}
-use Rattle.journal_links.specs.Steps.{CloseOf, ListenOf, NextOf, Progress, SendOf, close_again, close_passed}
-use Rattle.journal_links.specs.Steps.{listen_again, listen_first, listen_unasked, next_again, next_broken, next_inner}
-use Rattle.journal_links.specs.Steps.{next_unasked, send_again, send_memory, send_passed}
+use Rattle.journal_links.specs.Steps.{CloseOf, ListenOf, NextOf, Progress, SendOf, close_again, close_passed, listen_again, listen_first, listen_unasked, next_again, next_broken, next_inner, next_unasked, send_again, send_memory, send_passed}
 use Rattle.ports.specs.Calls.{LinksReport}
 use Rattle.ports.specs.declared.links.ListenAnswer.{ListenAnswer}
 use Rattle.ports.specs.declared.links.SendAnswer.{SendAnswer}
 use Rattle.ports.specs.declared.links.Turn.{Turn}
 use Rattle.ports.specs.declared.links.Want.{Want}
 use Rattle.recorded_links.specs.Steps.{OwnStep, Seen, own_full, own_refused, own_taken}
-use Rattle.recorded_runs.proofs.FaultLaws.{listen_risen as listen_step_risen, next_risen as next_step_risen}
+use Rattle.recorded_links.proofs.FaultLaws.{listen_risen as listen_step_risen, next_risen as next_step_risen}
 
 still : (old new : LinksReport) → new ≡ old → old.faults ≤ new.faults
 still old new same = let faults = ap (λ (report : LinksReport). report.faults) same in omega (arith, faults)

@@ -1,6 +1,5 @@
 -- What one call of links that record asks of the inner links.
-use Rattle.std.proofs.Common.{◌≡◌, ◌⊎◌, inl, inr, ℕ, Bool, true, false, List, [], ◌∷◌, length, refl, sym, ◌∙◌, ap}
-use Rattle.std.proofs.Common.{subst}
+use Rattle.std.proofs.Common.{◌≡◌, ◌⊎◌, inl, inr, ℕ, Bool, true, false, List, [], ◌∷◌, length, refl, sym, ◌∙◌, ap, subst}
 use Rattle.std.specs.Prelude.{Option, Some, None}
 use Rattle.journal_format.specs.declared.turn_record.Summary.{Summary}
 use Rattle.ports.specs.Calls.{AddsCalls, LinksReport}
@@ -18,9 +17,8 @@ use Rattle.ports.proofs.CallLemmas.{no_calls}
 use Rattle.recorded_links.specs.Keeping.{HandsOut}
 use Rattle.recorded_links.specs.Numbers.{inner_number}
 use Rattle.recorded_links.specs.Sending.{may_note}
-use Rattle.recorded_links.specs.Steps.{Asks, CloseStep, ListenStep, NextStep, Seen, SendStep, Unsent, answered}
-use Rattle.recorded_links.specs.Steps.{listen_refused, listen_taken, next_full, next_refused, next_taken, not_asked}
-use Rattle.recorded_runs.specs.Passing.{IsPassed, closed, closed_own, listens, sent, stops, turns, unasked, unsent}
+use Rattle.recorded_links.specs.Steps.{Asks, CloseStep, ListenStep, NextStep, Seen, SendStep, Unsent, answered, listen_refused, listen_taken, next_full, next_refused, next_taken, not_asked}
+use Rattle.recorded_links.specs.Passing.{IsPassed, closed, closed_own, listens, sent, stops, turns, unasked, unsent}
 
 pub record AsksOnce (first : ℕ) (sends : List Summary) (made : List Entry) (old new : LinksReport) : Type 0 where
   pub more : List Entry

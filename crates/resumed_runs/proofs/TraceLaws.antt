@@ -22,13 +22,13 @@ use Rattle.recorded_links.specs.Noting.{Noted, noted}
 use Rattle.recorded_links.specs.Sending.{after_send}
 use Rattle.recorded_links.specs.Steps.{OwnStep, Seen, own_full, own_refused, own_taken}
 use Rattle.recorded_links.proofs.NoteLaws.{close_noted, listen_quiet, send_noted, turn_quiet}
-use Rattle.recorded_runs.specs.Giving.{MayFollow}
-use Rattle.recorded_runs.specs.Lending.{Keeps, Lent}
-use Rattle.recorded_runs.specs.Making.{AreCalls, closed, listened, none_yet, one_more, sent, turned}
-use Rattle.recorded_runs.specs.Passing.{closed_own, stops, unasked}
-use Rattle.recorded_runs.proofs.CallLaws.{keeps_listen, keeps_next}
-use Rattle.recorded_runs.proofs.GivenLaws.{may_close_step, may_none, may_send_step, may_still}
-use Rattle.recorded_runs.proofs.JournalLaws.{keeps_begun, keeps_same}
+use Rattle.recorded_links.specs.Giving.{MayFollow}
+use Rattle.recorded_links.specs.Lending.{Keeps, Lent}
+use Rattle.recorded_links.specs.Making.{AreCalls, closed, listened, none_yet, one_more, sent, turned}
+use Rattle.recorded_links.specs.Passing.{closed_own, stops, unasked}
+use Rattle.recorded_links.proofs.CallLaws.{keeps_listen, keeps_next}
+use Rattle.recorded_links.proofs.GivenLaws.{may_close_step, may_none, may_send_step, may_still}
+use Rattle.recorded_links.proofs.JournalLaws.{keeps_begun, keeps_same}
 use Rattle.journal_links.specs.Opened.{first_free}
 use Rattle.resumed_runs.specs.Asking.{AsksFor, IsAfter, IsAgain, breaks, closes_again, closes_inner, gives_again, listens_again, none_again, none_made, one_after, one_again, passes_on, sends_again}
 use Rattle.resumed_runs.specs.Making.{State, resuming, unresumed}

@@ -15,7 +15,7 @@ use Rattle.ports.specs.declared.links.What.TheVariants.{Broken}
 use Rattle.recorded_links.specs.Keeping.{HandsOut, is_recorded}
 use Rattle.recorded_links.specs.Numbers.{inner_number}
 use Rattle.recorded_links.specs.Noting.{noted}
-use Rattle.recorded_runs.specs.Passing.{IsPassed}
+use Rattle.recorded_links.specs.Passing.{IsPassed}
 use Rattle.journal_links.specs.Opened.{first_free}
 use Rattle.resumed_runs.specs.Recording.{records_after}
 

@@ -7,8 +7,8 @@ use Rattle.journal_format.specs.declared.turn_record.TurnRecord.{TurnRecord}
 use Rattle.journal_links.specs.Resuming.{Resumes}
 use Rattle.ports.specs.Calls.{LinksReport}
 use Rattle.ports.specs.declared.entry.Entry.{Entry}
-use Rattle.recorded_runs.specs.Making.{AreSince}
-use Rattle.recorded_runs.specs.Recording.{with_records}
+use Rattle.recorded_links.specs.Making.{AreSince}
+use Rattle.recorded_links.specs.Recording.{with_records}
 use Rattle.resumed_runs.specs.Asking.{AsksOf}
 use Rattle.resumed_runs.specs.Making.{Made, State, resuming, unresumed}
 use Rattle.resumed_runs.specs.Recording.{BeginAgain, Resumed, later_records}

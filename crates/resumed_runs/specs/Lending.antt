@@ -1,7 +1,7 @@
 -- What is lent to links that resume a run.
 use Rattle.std.specs.Prelude.{List, []}
 use Rattle.journal_format.specs.declared.turn_record.TurnRecord.{TurnRecord}
-use Rattle.recorded_runs.specs.Lending.{Lent, nothing_lent}
+use Rattle.recorded_links.specs.Lending.{Lent, nothing_lent}
 
 -- links and a disk when they were lent, and the records of the journal
 pub record LentJournal : Type 0 where

@@ -12,7 +12,7 @@ use Rattle.ports.specs.declared.entry.Entry.{Entry}
 use Rattle.ports.specs.declared.links.Links.{Ghosts as Links}
 use Rattle.recorded_links.specs.Seeing.{seen_of}
 use Rattle.recorded_links.specs.Steps.{Seen}
-use Rattle.recorded_runs.specs.Making.{AreCalls, Steps, uncalled}
+use Rattle.recorded_links.specs.Making.{AreCalls, Steps, uncalled}
 use Rattle.journal_links.specs.Opened.{first_free}
 use Rattle.journal_links.specs.Replaying.{summaries_next}
 

@@ -8,8 +8,8 @@ use Rattle.journal_links.specs.Turns.{PlainTurn, handed, turns_in}
 use Rattle.ports.specs.Calls.{LinksReport}
 use Rattle.ports.specs.declared.entry.Entry.{Entry}
 use Rattle.recorded_links.specs.Noting.{noted}
-use Rattle.recorded_runs.specs.Giving.{MayFollow}
-use Rattle.recorded_runs.specs.Recording.{AreRecorded}
+use Rattle.recorded_links.specs.Giving.{MayFollow}
+use Rattle.recorded_links.specs.Recording.{AreRecorded}
 use Rattle.journal_links.specs.Opened.{first_free}
 
 -- The turns that were handed out are the first of the journal's, or all of them and then others.

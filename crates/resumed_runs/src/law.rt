@@ -1,7 +1,7 @@
 ghost use Rattle.resumed_runs.specs.Laws.{CallsArePassed, LastTurnIsKept, TurnsAreRecorded};
 
 /// The turns of the journal were handed out again, in order, and those after them were recorded in it. What a crash
-/// leaves follows by [`recorded_runs::crashes_leave_turns`].
+/// leaves follows by [`recorded_links::crashes_leave_turns`].
 pub fn turns_are_recorded()
     ensures { TurnsAreRecorded }
 {}

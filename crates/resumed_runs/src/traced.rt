@@ -2,7 +2,7 @@ ghost use Rattle.std.specs.Prelude.{◌≡◌, ◌≤◌, ◌||◌, [], false, t
 ghost use Rattle.std.proofs.Props.{props};
 ghost use Rattle.list_laws.specs.Counts.{Rose};
 ghost use Rattle.recorded_links.specs.Numbers.{first_after};
-ghost use Rattle.recorded_runs.specs.Lending.{traced_report};
+ghost use Rattle.recorded_links.specs.Lending.{traced_report};
 ghost use Rattle.journal_links.specs.Opened.{first_free};
 ghost use Rattle.resumed_runs.specs.Making.{Made, state_of};
 ghost use Rattle.journal_links.specs.Replaying.{summaries_next};

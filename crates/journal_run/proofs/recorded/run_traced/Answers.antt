@@ -2,7 +2,7 @@ use Rattle.std.proofs.Common.{◌≡◌, ℕ, ◌+◌, ◌∙◌, ap, subst, rul
 use Rattle.hub_run.specs.Runs.{RunsTo, run_report}
 use Rattle.journal_run.proofs.RunLaws.{disk_still, links_rose, links_still, run_calls}
 use Rattle.list_laws.specs.Counts.{Rose}
-use Rattle.recorded_runs.specs.Lending.{disk_faults}
+use Rattle.recorded_links.specs.Lending.{disk_faults}
 use Rattle.journal_run.proofs.recorded.run_traced.Goals as goal
 
 pub returns-clause-runs : goal.returns-clause-runs

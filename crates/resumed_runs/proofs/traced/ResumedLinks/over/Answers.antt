@@ -1,6 +1,6 @@
 use Rattle.std.proofs.Common.{rules}
 use Rattle.std.proofs.lemmas.Grind.{merely}
-use Rattle.recorded_runs.proofs.TraceLaws.{seen_uncalled}
+use Rattle.recorded_links.proofs.TraceLaws.{seen_uncalled}
 use Rattle.resumed_runs.proofs.MadeLaws.{given_none, made_begun}
 use Rattle.resumed_runs.proofs.traced.ResumedLinks.over.Goals as goal
 

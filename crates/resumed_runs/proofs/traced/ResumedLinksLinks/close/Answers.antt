@@ -2,8 +2,8 @@ use Rattle.std.proofs.Common.{refl, ◌∙◌, ◌∷◌, [], sym, ap, subst, ar
 use Rattle.list_laws.specs.Counts.{Rose}
 use Rattle.ports.specs.declared.entry.Entry.TheVariants.{Close}
 use Rattle.recorded_links.specs.Numbers.{first_after}
-use Rattle.recorded_runs.proofs.FaultLaws.{inner_still, may_close, quiet_calls}
-use Rattle.recorded_runs.specs.Making.{closed}
+use Rattle.recorded_links.proofs.FaultLaws.{inner_still, may_close, quiet_calls}
+use Rattle.recorded_links.specs.Making.{closed}
 use Rattle.resumed_runs.proofs.RisenLaws.{close_still}
 use Rattle.resumed_runs.proofs.MadeLaws.{made_more}
 use Rattle.resumed_runs.proofs.traced.ResumedLinksLinks.close.Goals as goal

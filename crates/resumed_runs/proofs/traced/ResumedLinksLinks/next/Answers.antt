@@ -2,9 +2,9 @@ use Rattle.std.proofs.Common.{refl, ◌+◌, Bool, sym, ◌∙◌, ap, subst, ar
 use Rattle.ports.specs.Calls.{AddsCalls}
 use Rattle.ports.specs.Links.{HasNextCause, next_entries}
 use Rattle.recorded_links.specs.Numbers.{first_after}
-use Rattle.recorded_runs.specs.Lending.{disk_faults, traced_report}
-use Rattle.recorded_runs.proofs.FaultLaws.{next_cause, still_broke, still_least, still_quiet, traced_calls}
-use Rattle.recorded_runs.specs.Making.{turned}
+use Rattle.recorded_links.specs.Lending.{disk_faults, traced_report}
+use Rattle.recorded_links.proofs.FaultLaws.{next_cause, still_broke, still_least, still_quiet, traced_calls}
+use Rattle.recorded_links.specs.Making.{turned}
 use Rattle.resumed_runs.proofs.RisenLaws.{next_risen}
 use Rattle.resumed_runs.proofs.MadeLaws.{made_more}
 use Rattle.resumed_runs.proofs.traced.ResumedLinksLinks.next.Goals as goal

@@ -2,8 +2,8 @@ use Rattle.std.proofs.Common.{refl, ◌∙◌, sym, ap, subst, arith}
 use Rattle.list_laws.specs.Counts.{Rose}
 use Rattle.ports.specs.Links.{send_entries}
 use Rattle.recorded_links.specs.Numbers.{first_after}
-use Rattle.recorded_runs.proofs.FaultLaws.{inner_still, quiet_calls}
-use Rattle.recorded_runs.specs.Making.{sent}
+use Rattle.recorded_links.proofs.FaultLaws.{inner_still, quiet_calls}
+use Rattle.recorded_links.specs.Making.{sent}
 use Rattle.resumed_runs.proofs.RisenLaws.{send_still}
 use Rattle.resumed_runs.proofs.MadeLaws.{made_more}
 use Rattle.resumed_runs.proofs.traced.ResumedLinksLinks.send.Goals as goal

@@ -1,0 +1,5 @@
+use Rattle.recorded_links.proofs.LastLaws.{last_kept}
+use Rattle.recorded_links.proofs.law.last_turn_is_kept.Goals as goal
+
+pub returns : goal.returns
+returns c = last_kept
