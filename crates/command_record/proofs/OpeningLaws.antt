@@ -1,5 +1,6 @@
 -- The journal in a file that was opened by its name.
-use Rattle.std.proofs.Common.{◌≡◌, ◌≢◌, ℕ, ◌+◌, ◌<◌, ◌≤◌, List, [], ◌++◌, length, Option, Some, None, Result, Ok, Err, false, true, inl, inr, refl, ap, sym, ◌∙◌, subst, append-nil, arith}
+use Rattle.std.proofs.Common.{◌≡◌, ◌≢◌, ℕ, ◌+◌, ◌<◌, ◌≤◌, List, [], ◌++◌, length, Option, Some, None, Result, Ok, Err}
+use Rattle.std.proofs.Common.{false, true, inl, inr, refl, ap, sym, ◌∙◌, subst, append-nil, arith}
 use Rattle.std.specs.Option.{ForSome, option_map}
 use Rattle.std.specs.Prelude.{IfErr, IfOk, OnOk}
 use Rattle.disk_port.specs.Calls.{DiskReport, HasCause, opened_by}
@@ -11,7 +12,8 @@ use Rattle.journal_format.specs.Limits.{config_limit, journal_limit, step_limit}
 use Rattle.journal_format.specs.declared.finder.Found.{Found}
 use Rattle.journal_links.proofs.ResumeLaws.{loaded_whole}
 use Rattle.journal_links.specs.Resuming.{Resumes}
-use Rattle.turn_journal.specs.Beginning.{HoldsBlankOrFree, IsFree, IsWhyTaken, LeavesAfterSync, StandsBlank, blank_end, is_taken}
+use Rattle.turn_journal.specs.Beginning.{HoldsBlankOrFree, IsFree, IsWhyTaken, LeavesAfterSync, StandsBlank, blank_end}
+use Rattle.turn_journal.specs.Beginning.{is_taken}
 use Rattle.turn_journal.specs.Loading.{HasFaultCause, IsLoaded, IsSyncedOrNot, IsWhyRefused, fault_of}
 use Rattle.turn_journal.specs.Standing.{Stands}
 use Rattle.turn_journal.specs.declared.fault.JournalFault.{JournalFault}

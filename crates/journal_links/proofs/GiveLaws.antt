@@ -1,5 +1,6 @@
 -- The turns of the journal that are given again, and those that say that a link of the journal broke.
-use Rattle.std.proofs.Common.{◌≡◌, ◌⊎◌, inl, inr, ℕ, zero, suc, ◌+◌, ◌<◌, Bool, true, false, List, [], ◌∷◌, drop, length, refl, ap, sym, ◌∙◌, subst, arith}
+use Rattle.std.proofs.Common.{◌≡◌, ◌⊎◌, inl, inr, ℕ, zero, suc, ◌+◌, ◌<◌, Bool, true, false, List, [], ◌∷◌, drop}
+use Rattle.std.proofs.Common.{length, refl, ap, sym, ◌∙◌, subst, arith}
 use Rattle.std.specs.Prelude.{nat_lt}
 use Rattle.std.specs.List.{list_all}
 use Rattle.std.proofs.lemmas.Bool.{and_parts, lt-ltb, ltb-true}
@@ -14,7 +15,8 @@ use Rattle.ports.specs.declared.links.ListenAnswer.{ListenAnswer}
 use Rattle.ports.specs.declared.links.ListenAnswer.TheVariants as listen
 use Rattle.ports.specs.declared.links.Turn.{Turn}
 use Rattle.ports.specs.declared.links.What.{What}
-use Rattle.ports.specs.declared.links.What.TheVariants.{Idle, Opened, Read, Ended, Broken, Room, Stopped, Failed, Memory}
+use Rattle.ports.specs.declared.links.What.TheVariants.{Idle, Opened, Read, Ended, Broken, Room, Stopped, Failed}
+use Rattle.ports.specs.declared.links.What.TheVariants.{Memory}
 use Rattle.recorded_links.specs.Keeping.{FailedIf, is_lost, is_ready}
 use Rattle.recorded_links.specs.Steps.{OwnStep, Seen, own_full, own_refused, own_taken}
 use Rattle.journal_links.specs.Opened.{is_before, number_after}

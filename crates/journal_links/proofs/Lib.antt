@@ -6,3 +6,10 @@ pub mod GiveLaws
 pub mod ResumeLaws
 pub mod TurnLaws
 pub mod KeepLaws
+pub mod StepLaws
+pub mod OwnLaws
+pub mod SplitLaws
+pub mod TraceLaws
+pub mod RisenLaws
+pub mod MadeLaws
+pub mod LastLaws

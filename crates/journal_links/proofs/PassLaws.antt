@@ -1,5 +1,6 @@
 -- The inner links that are open here stay open for the links that record.
-use Rattle.std.proofs.Common.{◌≡◌, ◌≢◌, ℕ, ◌==◌, Bool, true, false, not, ◌||◌, List, [], ◌∷◌, ◌++◌, filter, fold, refl, ap, sym, ◌∙◌, subst, append-nil, arith, IsTrue}
+use Rattle.std.proofs.Common.{◌≡◌, ◌≢◌, ℕ, ◌==◌, Bool, true, false, not, ◌||◌, List, [], ◌∷◌, ◌++◌, filter, fold, refl}
+use Rattle.std.proofs.Common.{ap, sym, ◌∙◌, subst, append-nil, arith, IsTrue}
 use Rattle.std.specs.Prelude.{Option, Some, None, is_some}
 use Rattle.std.specs.List.{list_all, list_any}
 use Rattle.std.specs.Option.{option_map}
@@ -9,7 +10,8 @@ use Rattle.std.proofs.lemmas.Map.Views.{any-filter_same}
 use Rattle.std.proofs.lemmas.Option.{none-some, same_Some}
 use Rattle.journal_format.specs.declared.turn_record.TurnRecord.{TurnRecord}
 use Rattle.journal_links.specs.Steps.{opens_before}
-use Rattle.ports.specs.Links.{MayClose, is_unclosed, listen_entries, next_entries, send_entries, unclosed, unclosed_after, unclosed_after_turn}
+use Rattle.ports.specs.Links.{MayClose, is_unclosed, listen_entries, next_entries, send_entries, unclosed}
+use Rattle.ports.specs.Links.{unclosed_after, unclosed_after_turn}
 use Rattle.ports.specs.declared.entry.Entry.{Entry}
 use Rattle.ports.specs.declared.entry.Entry.TheVariants.{Close}
 use Rattle.ports.specs.declared.links.ListenAnswer.{ListenAnswer}
@@ -19,7 +21,8 @@ use Rattle.ports.specs.declared.links.SendAnswer.TheVariants as send
 use Rattle.ports.specs.declared.links.Turn.{Turn}
 use Rattle.ports.specs.declared.links.Want.{Want}
 use Rattle.ports.specs.declared.links.What.{What}
-use Rattle.ports.specs.declared.links.What.TheVariants.{Idle, Opened, Read, Ended, Broken, Room, Stopped, Failed, Memory}
+use Rattle.ports.specs.declared.links.What.TheVariants.{Idle, Opened, Read, Ended, Broken, Room, Stopped, Failed}
+use Rattle.ports.specs.declared.links.What.TheVariants.{Memory}
 use Rattle.recorded_links.specs.Numbers.{first_after, inner_number}
 use Rattle.recorded_links.proofs.StepLaws.{number_is}
 use Rattle.journal_links.specs.Opened.{Passes, is_before}

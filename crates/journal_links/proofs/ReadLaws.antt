@@ -1,5 +1,6 @@
 -- Reading the records of a journal one after the other.
-use Rattle.std.proofs.Common.{◌≡◌, ◌≢◌, ℕ, Bool, true, false, ◌&&◌, List, [], ◌∷◌, ◌++◌, length, Some, Err, refl, sym, ap, subst, ◌∙◌, append_assoc, length-append, arith}
+use Rattle.std.proofs.Common.{◌≡◌, ◌≢◌, ℕ, Bool, true, false, ◌&&◌, List, [], ◌∷◌, ◌++◌, length, Some, Err, refl, sym}
+use Rattle.std.proofs.Common.{ap, subst, ◌∙◌, append_assoc, length-append, arith}
 use Rattle.std.specs.List.{list_all}
 use Rattle.std.specs.Prelude.{nat_lt, nat_le}
 use Rattle.std.proofs.lemmas.Bool.{le-leb, lt-ltb}
@@ -13,7 +14,8 @@ use Rattle.journal_format.specs.declared.unread.Unread.TheVariants as unread
 use Rattle.journal_format.proofs.NumberLaws.{some_is}
 use Rattle.journal_format.specs.Limits.{piece_limit}
 use Rattle.journal_format.specs.declared.turn_record.TurnEvent.{TurnEvent}
-use Rattle.journal_format.specs.declared.turn_record.TurnEvent.TheVariants.{Listen, Idle, Opened, Read, Ended, Broken, Room}
+use Rattle.journal_format.specs.declared.turn_record.TurnEvent.TheVariants.{Listen, Idle, Opened, Read, Ended, Broken}
+use Rattle.journal_format.specs.declared.turn_record.TurnEvent.TheVariants.{Room}
 use Rattle.journal_format.specs.declared.turn_record.TurnRecord.{TurnRecord}
 use Rattle.turn_journal.specs.declared.fault.JournalFault.{JournalFault}
 use Rattle.turn_journal.specs.declared.fault.JournalFault.TheVariants as fault

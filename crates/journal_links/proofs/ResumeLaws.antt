@@ -1,5 +1,6 @@
 -- What is read of the journal that was loaded.
-use Rattle.std.proofs.Common.{Err, ◌≡◌, ℕ, ◌+◌, Bool, subst, List, [], ◌∷◌, ◌++◌, take, length, ap, sym, ◌∙◌, append_assoc, length-append, arith}
+use Rattle.std.proofs.Common.{Err, ◌≡◌, ℕ, ◌+◌, Bool, subst, List, [], ◌∷◌, ◌++◌, take, length, ap, sym, ◌∙◌}
+use Rattle.std.proofs.Common.{append_assoc, length-append, arith}
 use Rattle.std.proofs.lemmas.List.{take-append-le, take_all}
 use Rattle.disk_port.specs.Past.{Past, synced}
 use Rattle.journal_format.specs.declared.finder.Found.{Found}

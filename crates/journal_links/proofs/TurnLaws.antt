@@ -1,5 +1,6 @@
 -- What a crash leaves of the turns that were handed out.
-use Rattle.std.proofs.Common.{◌≡◌, ◌⊎◌, inl, inr, ℕ, zero, suc, ◌<◌, Bool, true, false, not, cond, List, [], ◌∷◌, ◌++◌, drop, length, refl, ap, sym, ◌∙◌, subst, append-nil, append_assoc, arith}
+use Rattle.std.proofs.Common.{◌≡◌, ◌⊎◌, inl, inr, ℕ, zero, suc, ◌<◌, Bool, true, false, not, cond, List, [], ◌∷◌, ◌++◌}
+use Rattle.std.proofs.Common.{drop, length, refl, ap, sym, ◌∙◌, subst, append-nil, append_assoc, arith}
 use Rattle.std.proofs.lemmas.Bool.{leb-false, leb-true}
 use Rattle.std.proofs.lemmas.List.{drop_all, map-append}
 use Rattle.disk_port.proofs.PastLaws.{begins, weaker}
@@ -10,17 +11,20 @@ use Rattle.journal_format.specs.declared.turn_record.TurnEvent.{TurnEvent}
 use Rattle.journal_format.specs.declared.turn_record.TurnEvent.TheVariants as event
 use Rattle.journal_format.specs.declared.turn_record.TurnRecord.{TurnRecord}
 use Rattle.journal_links.specs.Steps.{Progress, is_over, last_secs, next_again, next_broken, next_inner, next_unasked}
-use Rattle.journal_links.specs.Turns.{AreTurns, HoldsTurns, KeepsTurns, NextKeepsTurns, PlainTurn, StaysJournal, handed, is_done, is_turn, plain, turns_in}
+use Rattle.journal_links.specs.Turns.{AreTurns, HoldsTurns, KeepsTurns, NextKeepsTurns, PlainTurn, StaysJournal, handed}
+use Rattle.journal_links.specs.Turns.{is_done, is_turn, plain, turns_in}
 use Rattle.journal_links.proofs.GiveLaws.{Next, next}
 use Rattle.ports.specs.Links.{is_failed_turn, is_memory_turn, next_entries, piece_of}
 use Rattle.ports.specs.declared.entry.Entry.{Entry}
 use Rattle.ports.specs.declared.links.Turn.{Turn}
 use Rattle.ports.specs.declared.links.Want.{Want}
 use Rattle.ports.specs.declared.links.What.{What}
-use Rattle.ports.specs.declared.links.What.TheVariants.{Idle, Opened, Read, Ended, Broken, Room, Stopped, Failed, Memory}
+use Rattle.ports.specs.declared.links.What.TheVariants.{Idle, Opened, Read, Ended, Broken, Room, Stopped, Failed}
+use Rattle.ports.specs.declared.links.What.TheVariants.{Memory}
 use Rattle.recorded_links.specs.Keeping.{AddsRecord, HandsOut, Kept, entry_of, event_of, is_recorded}
 use Rattle.recorded_links.specs.Noting.{Noted, noted}
-use Rattle.recorded_links.specs.Steps.{NextStep, OwnStep, next_full, next_refused, next_taken, own_full, own_refused, own_taken}
+use Rattle.recorded_links.specs.Steps.{NextStep, OwnStep, next_full, next_refused, next_taken, own_full, own_refused}
+use Rattle.recorded_links.specs.Steps.{own_taken}
 use Rattle.recorded_links.proofs.NoteLaws.{turn_added, turn_quiet}
 use Rattle.turn_journal.specs.Standing.{Adds, HoldsOrWith, Stands}
 use Rattle.journal_links.specs.Replaying.{bytes_of, what_of}

@@ -5,3 +5,8 @@ pub mod Steps
 pub mod Resuming
 pub mod Seeing
 pub mod Turns
+pub mod Making
+pub mod Asking
+pub mod Recording
+pub mod Lending
+pub mod Laws

@@ -1,5 +1,6 @@
 -- What one call of links that keep a journal does.
-use Rattle.std.specs.Prelude.{◌≡◌, ◌⊎◌, ℕ, ◌-◌, ◌<◌, Bool, true, false, nat_le, nat_lt, ◌&&◌, List, ◌∷◌, length, drop, slice_get, Option, Some, None}
+use Rattle.std.specs.Prelude.{◌≡◌, ◌⊎◌, ℕ, ◌-◌, ◌<◌, Bool, true, false, nat_le, nat_lt, ◌&&◌, List, ◌∷◌, length, drop}
+use Rattle.std.specs.Prelude.{slice_get, Option, Some, None}
 use Rattle.journal_format.specs.declared.turn_record.Summary.{Summary}
 use Rattle.journal_format.specs.declared.turn_record.TurnRecord.{TurnRecord}
 use Rattle.ports.specs.Calls.{AddsCalls}

@@ -21,11 +21,11 @@ use Rattle.ports.specs.Calls.{LinksReport}
 use Rattle.ports.specs.declared.entry.Entry.{Entry}
 use Rattle.recorded_links.specs.Steps.{Seen}
 use Rattle.recorded_links.specs.Making.{LeadsTo, none_yet}
-use Rattle.resumed_runs.specs.Asking.{AsksOf}
-use Rattle.resumed_runs.specs.Lending.{LentJournal}
-use Rattle.resumed_runs.specs.Making.{Made, State, resuming, unresumed}
-use Rattle.resumed_runs.specs.Recording.{MayResume, later_records}
-use Rattle.resumed_runs.proofs.LastLaws.{calls_passed, turns_recorded}
+use Rattle.journal_links.specs.Asking.{AsksOf}
+use Rattle.journal_links.specs.Lending.{LentJournal}
+use Rattle.journal_links.specs.Making.{Made, State, resuming, unresumed}
+use Rattle.journal_links.specs.Recording.{MayResume, later_records}
+use Rattle.journal_links.proofs.LastLaws.{calls_passed, turns_recorded}
 
 -- the state of links of which this is seen
 abbrev pub state_at : Seen → Progress → State

@@ -15,9 +15,9 @@ use Rattle.journal_run.specs.declared.fault.JournalRunFault.{JournalRunFault}
 use Rattle.ports.specs.Calls.{LinksReport}
 use Rattle.ports.specs.declared.entry.Entry.{Entry}
 use Rattle.recorded_links.specs.Making.{LeadsTo}
-use Rattle.resumed_runs.specs.Asking.{AsksOf}
-use Rattle.resumed_runs.specs.Making.{resuming, unresumed}
-use Rattle.resumed_runs.specs.Recording.{BeginAgain, MayResume, later_records}
+use Rattle.journal_links.specs.Asking.{AsksOf}
+use Rattle.journal_links.specs.Making.{resuming, unresumed}
+use Rattle.journal_links.specs.Recording.{BeginAgain, MayResume, later_records}
 use Rattle.turn_journal.specs.Standing.{Told}
 
 -- Of a file that held the journal, in which its run was resumed since by these calls.

@@ -9,7 +9,7 @@ ghost use Rattle.journal_run.specs.Resumed.{RunsResumed};
 ghost use Rattle.list_laws.specs.Counts.{Rose};
 ghost use Rattle.recorded_links.specs.Numbers.{first_after};
 ghost use Rattle.journal_links.specs.Opened.{first_free};
-ghost use Rattle.resumed_runs.specs.Making.{Made, state_of};
+ghost use Rattle.journal_links.specs.Making.{Made, state_of};
 ghost use Rattle.turn_journal.specs.Standing.{IsWithin};
 ghost use Rattle.journal_links.specs.Reading.{has_event};
 ghost use Rattle.journal_links.specs.Replaying.{summaries_next};
@@ -21,11 +21,12 @@ use ev_types::Blob;
 use hub_run::conn_core::Hub;
 use hub_run::{Setup, run_quietly};
 use journal_format::Found;
-use journal_links::{JournalLinks, OpenLinks, Replay, TurnRecords, last_opened};
+use journal_links::{
+    JournalLinks, JournalLoan, OpenLinks, Replay, ResumedLinks, TurnRecords, last_opened,
+};
 use ports::{Links, Sink};
 use pred_eval::Patterns;
 use recorded_links::{RecordedLinks, TurnRoom};
-use resumed_runs::{JournalLoan, ResumedLinks};
 use std::alloc::Global;
 use std::marker::Brand;
 use step_count::{Ledger, Steps};

@@ -1,5 +1,6 @@
 -- What each call of links that record does to the journal.
-use Rattle.std.proofs.Common.{◌≡◌, ◌≢◌, ◌⊎◌, inl, inr, ℕ, Bool, true, false, not, List, [], ◌∷◌, ◌++◌, refl, sym, ◌∙◌, ap, subst}
+use Rattle.std.proofs.Common.{◌≡◌, ◌≢◌, ◌⊎◌, inl, inr, ℕ, Bool, true, false, not, List, [], ◌∷◌, ◌++◌, refl, sym, ◌∙◌}
+use Rattle.std.proofs.Common.{ap, subst}
 use Rattle.std.specs.Prelude.{◌&&◌, Option}
 use Rattle.journal_format.specs.Spelling.{IsRecord, Spells, is_listen, record_bytes}
 use Rattle.journal_format.specs.declared.turn_record.Summary.{Summary}
@@ -14,11 +15,15 @@ use Rattle.ports.specs.declared.links.SendAnswer.TheVariants as send
 use Rattle.ports.specs.declared.links.Turn.{Turn}
 use Rattle.ports.specs.declared.links.Want.{Want}
 use Rattle.ports.specs.declared.links.What.{What}
-use Rattle.ports.specs.declared.links.What.TheVariants.{Idle, Opened, Read, Ended, Broken, Room, Stopped, Failed, Memory}
-use Rattle.recorded_links.specs.Keeping.{AddsRecord, HandsListen, HandsOut, entry_of, event_of, is_lost_listen, is_ready, is_recorded, listen_entry}
+use Rattle.ports.specs.declared.links.What.TheVariants.{Idle, Opened, Read, Ended, Broken, Room, Stopped, Failed}
+use Rattle.ports.specs.declared.links.What.TheVariants.{Memory}
+use Rattle.recorded_links.specs.Keeping.{AddsRecord, HandsListen, HandsOut, entry_of, event_of, is_lost_listen}
+use Rattle.recorded_links.specs.Keeping.{is_ready, is_recorded, listen_entry}
 use Rattle.recorded_links.specs.Sending.{after_send}
-use Rattle.recorded_links.proofs.NoteLaws.{close_noted, listen_noted, listen_quiet, send_noted, turn_added, turn_quiet, with_send}
-use Rattle.recorded_links.specs.Steps.{CloseStep, ListenStep, NextStep, Seen, SendStep, Takes, TakesListen, Unsent, listen_refused, listen_taken, next_full, next_refused, next_taken}
+use Rattle.recorded_links.proofs.NoteLaws.{close_noted, listen_noted, listen_quiet, send_noted, turn_added, turn_quiet}
+use Rattle.recorded_links.proofs.NoteLaws.{with_send}
+use Rattle.recorded_links.specs.Steps.{CloseStep, ListenStep, NextStep, Seen, SendStep, Takes, TakesListen, Unsent}
+use Rattle.recorded_links.specs.Steps.{listen_refused, listen_taken, next_full, next_refused, next_taken}
 use Rattle.recorded_links.specs.Lending.{Keeps, Lent}
 use Rattle.recorded_links.specs.Noting.{after_listen, noted}
 use Rattle.recorded_links.specs.Giving.{MayFollow}

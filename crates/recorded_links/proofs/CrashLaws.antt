@@ -1,5 +1,6 @@
 -- What a crash leaves of a run that was recorded.
-use Rattle.std.proofs.Common.{◌≡◌, ◌⊎◌, inl, inr, ℕ, List, [], ◌∷◌, ◌++◌, refl, sym, ◌∙◌, ap, subst, append-nil, append_assoc, arith}
+use Rattle.std.proofs.Common.{◌≡◌, ◌⊎◌, inl, inr, ℕ, List, [], ◌∷◌, ◌++◌, refl, sym, ◌∙◌, ap, subst, append-nil}
+use Rattle.std.proofs.Common.{append_assoc, arith}
 use Rattle.disk_port.specs.Past.{Leaves, LeavesOnly, Past}
 use Rattle.disk_port.proofs.PastLaws.{begins, then_more, weaker}
 use Rattle.journal_format.specs.Journals.{Holds, Journal}

@@ -1,5 +1,6 @@
 -- What each call of links that record adds to what they report, and to the faults of those that were lent to them.
-use Rattle.std.proofs.Common.{◌≡◌, ◌≢◌, ℕ, ◌+◌, ◌<◌, ◌≤◌, Bool, true, false, ◌||◌, List, ◌++◌, refl, sym, ◌∙◌, ap, subst, arith, IsTrue}
+use Rattle.std.proofs.Common.{◌≡◌, ◌≢◌, ℕ, ◌+◌, ◌<◌, ◌≤◌, Bool, true, false, ◌||◌, List, ◌++◌, refl, sym, ◌∙◌, ap}
+use Rattle.std.proofs.Common.{subst, arith, IsTrue}
 use Rattle.std.specs.Prelude.{Option, Some, None}
 use Rattle.std.specs.Option.{ForSome, option_map}
 use Rattle.disk_port.specs.Calls.{DiskReport}
@@ -14,9 +15,11 @@ use Rattle.ports.specs.declared.links.SendAnswer.TheVariants as send
 use Rattle.ports.specs.declared.links.Turn.{Turn}
 use Rattle.ports.specs.declared.links.Want.{Want}
 use Rattle.ports.specs.declared.links.What.{What}
-use Rattle.ports.specs.declared.links.What.TheVariants.{Idle, Opened, Read, Ended, Broken, Room, Stopped, Failed, Memory}
+use Rattle.ports.specs.declared.links.What.TheVariants.{Idle, Opened, Read, Ended, Broken, Room, Stopped, Failed}
+use Rattle.ports.specs.declared.links.What.TheVariants.{Memory}
 use Rattle.recorded_links.specs.Keeping.{FailedIf}
-use Rattle.recorded_links.specs.Steps.{Asks, ListenStep, NextStep, Seen, SendStep, Unsent, answered, listen_refused, listen_taken, next_full, next_refused, next_taken, not_asked, own_report}
+use Rattle.recorded_links.specs.Steps.{Asks, ListenStep, NextStep, Seen, SendStep, Unsent, answered, listen_refused}
+use Rattle.recorded_links.specs.Steps.{listen_taken, next_full, next_refused, next_taken, not_asked, own_report}
 use Rattle.recorded_links.specs.Lending.{disk_faults, traced_report}
 
 -- ---- the faults of the inner links do not fall

@@ -13,7 +13,8 @@ use Rattle.recorded_links.proofs.NoteLaws.{close_noted, send_noted}
 use Rattle.recorded_links.specs.Giving.{MayFollow}
 use Rattle.recorded_links.specs.Laws.{LastTurnIsKept}
 use Rattle.recorded_links.specs.Lending.{Keeps, Lent}
-use Rattle.recorded_links.specs.Making.{AreCalls, Sends, closed, handed_out, listened, none_yet, one_more, recording, sent, then_closed, then_sent, turned, uncalled}
+use Rattle.recorded_links.specs.Making.{AreCalls, Sends, closed, handed_out, listened, none_yet, one_more, recording}
+use Rattle.recorded_links.specs.Making.{sent, then_closed, then_sent, turned, uncalled}
 use Rattle.recorded_links.specs.Recording.{with_records}
 use Rattle.recorded_links.proofs.CallLaws.{keeps_close, keeps_handed, keeps_listen, keeps_next, keeps_send}
 use Rattle.recorded_links.proofs.JournalLaws.{keeps_begun}

@@ -1,5 +1,6 @@
 -- Which call of the inner links is made for one of links that record.
-use Rattle.std.proofs.Common.{◌≡◌, ◌≢◌, ◌⊎◌, inl, inr, ℕ, Bool, true, false, List, [], ◌∷◌, ◌++◌, length, refl, sym, ◌∙◌, ap, subst}
+use Rattle.std.proofs.Common.{◌≡◌, ◌≢◌, ◌⊎◌, inl, inr, ℕ, Bool, true, false, List, [], ◌∷◌, ◌++◌, length, refl, sym}
+use Rattle.std.proofs.Common.{◌∙◌, ap, subst}
 use Rattle.std.specs.Prelude.{Option, Some, None}
 use Rattle.ports.specs.Calls.{AddsCalls, LinksReport}
 use Rattle.ports.specs.Links.{listen_entries, next_entries, send_entries}
@@ -16,10 +17,12 @@ use Rattle.ports.proofs.CallLemmas.{calls_then, no_calls}
 use Rattle.recorded_links.specs.Keeping.{HandsOut}
 use Rattle.recorded_links.specs.Numbers.{inner_number}
 use Rattle.recorded_links.specs.Sending.{may_note}
-use Rattle.recorded_links.specs.Steps.{Asks, CloseStep, ListenStep, NextStep, Seen, SendStep, Unsent, answered, listen_refused, listen_taken, next_full, next_refused, next_taken, not_asked}
+use Rattle.recorded_links.specs.Steps.{Asks, CloseStep, ListenStep, NextStep, Seen, SendStep, Unsent, answered}
+use Rattle.recorded_links.specs.Steps.{listen_refused, listen_taken, next_full, next_refused, next_taken, not_asked}
 use Rattle.recorded_links.specs.Lending.{Passed}
 use Rattle.recorded_links.specs.Noting.{noted}
-use Rattle.recorded_links.specs.Passing.{IsPassed, closed, closed_own, listens, none_made, one_made, sent, stops, turns, unasked, unsent}
+use Rattle.recorded_links.specs.Passing.{IsPassed, closed, closed_own, listens, none_made, one_made, sent, stops, turns}
+use Rattle.recorded_links.specs.Passing.{unasked, unsent}
 
 -- ---- before the first call
 

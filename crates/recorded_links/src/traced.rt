@@ -5,11 +5,11 @@ ghost use Rattle.recorded_links.specs.Numbers.{first_after};
 ghost use Rattle.recorded_links.specs.Seeing.{seen_of};
 ghost use Rattle.recorded_links.specs.Lending.{Traces, traced_report};
 
+use crate::RecordedLinks;
 use crate::loan::Loan;
 use disk_port::Disk;
 use ev_types::Text;
 use ports::{Links, ListenAnswer, SendAnswer, Turn, Wants};
-use recorded_links::RecordedLinks;
 use std::alloc::Global;
 use std::marker::PhantomData;
 

@@ -9,7 +9,7 @@ use Rattle.list_laws.specs.Counts.{Rose}
 use Rattle.ports.specs.Calls.{LinksReport}
 use Rattle.recorded_links.specs.Numbers.{first_after}
 use Rattle.recorded_links.specs.Steps.{seen}
-use Rattle.resumed_runs.specs.Lending.{LentJournal}
+use Rattle.journal_links.specs.Lending.{LentJournal}
 use Rattle.journal_run.proofs.resumed.run_in.Goals as goal
 
 pub returns-clause-runs : goal.returns-clause-runs

@@ -3,7 +3,8 @@ use Rattle.ports.specs.Calls.{AddsCalls}
 use Rattle.ports.specs.Links.{HasListenCause, listen_entries}
 use Rattle.recorded_links.specs.Numbers.{first_after}
 use Rattle.recorded_links.specs.Lending.{disk_faults, traced_report}
-use Rattle.recorded_links.proofs.FaultLaws.{listen_cause, listen_risen, still_broke, still_least, still_quiet, traced_calls}
+use Rattle.recorded_links.proofs.FaultLaws.{listen_cause, listen_risen, still_broke, still_least, still_quiet}
+use Rattle.recorded_links.proofs.FaultLaws.{traced_calls}
 use Rattle.recorded_links.proofs.TraceLaws.{traces_listen}
 use Rattle.recorded_links.proofs.traced.TracedLinksLinks.listen.Goals as goal
 
