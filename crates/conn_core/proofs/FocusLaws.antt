@@ -13,7 +13,7 @@ use Rattle.hub_link.specs.hub_meaning.Links.{Link, changed, closed, connected, f
 use Rattle.hub_link.specs.hub_meaning.Links.{is_open_stage, is_read_closed_stage, want_of, wants_of}
 use Rattle.hub_link.specs.declared.link.HubLink.{HubLink}
 use Rattle.hub_link.specs.HubLink.{RepresentsLink}
-use Rattle.link_table.specs.Kept.{Kept, IsAt, is_newer, number_at}
+use Rattle.conn_core.specs.Kept.{Kept, IsAt, is_newer, number_at}
 use Rattle.ports.specs.declared.links.Want.{Want}
 use Rattle.conn_core.specs.Keeping.{AreBeside, Keeps}
 use Rattle.conn_core.specs.Reaching.{Focus}

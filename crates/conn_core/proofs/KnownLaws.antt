@@ -9,8 +9,8 @@ use Rattle.std.proofs.lemmas.List.{length-set}
 use Rattle.std.proofs.lemmas.List.Sums.{fold-append}
 use Rattle.std.proofs.lemmas.Map.Views.{any-filter_same}
 use Rattle.hub_link.specs.Sending.{AreSendsTo}
-use Rattle.link_table.specs.Kept.{HasNoNumber, number_at}
-use Rattle.link_table.proofs.Numbers.{length_more, number_above, number_before, number_below, number_last, number_set}
+use Rattle.conn_core.specs.Kept.{HasNoNumber, number_at}
+use Rattle.conn_core.proofs.Numbers.{length_more, number_above, number_before, number_below, number_last, number_set}
 use Rattle.ports.specs.declared.entry.Entry.{Entry}
 use Rattle.ports.specs.declared.entry.Entry.TheVariants.{Listen, Next, Send, Close}
 use Rattle.ports.specs.declared.links.Turn.{Turn}

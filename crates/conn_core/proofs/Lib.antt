@@ -1,3 +1,7 @@
+pub use Rattle.hub_link.proofs.HubMeaningLinkLaws
+pub use Rattle.hub_link.proofs.HubMeaningPrefixLaws
+pub use Rattle.hub_link.proofs.MsgRepliesVerdictLaws
+pub mod Numbers
 pub mod Splits
 pub mod FocusLaws
 pub mod KnownLaws
@@ -6,6 +10,3 @@ pub mod LineLaws
 pub mod NoticeLaws
 pub mod OccurLaws
 pub mod TurnLaws
-pub use Rattle.hub_link.proofs.HubMeaningLinkLaws
-pub use Rattle.hub_link.proofs.HubMeaningPrefixLaws
-pub use Rattle.hub_link.proofs.MsgRepliesVerdictLaws

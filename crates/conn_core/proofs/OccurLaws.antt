@@ -20,7 +20,7 @@ use Rattle.hub_link.specs.declared.link.HubLink.{HubLink}
 use Rattle.hub_link.specs.Hearing.{HearsPiece, talk_after}
 use Rattle.hub_link.specs.Hearing as hearing
 use Rattle.hub_link.specs.HubLink.{RepresentsLink}
-use Rattle.link_table.specs.Kept.{IsAbsent, IsAt, Kept}
+use Rattle.conn_core.specs.Kept.{IsAbsent, IsAt, Kept}
 use Rattle.list_laws.specs.declared.memory.Memory.{Memory}
 use Rattle.hub_link.specs.msg_replies.Arriving.{Reported}
 use Rattle.hub_link.specs.msg_replies.declared.spare.Spare.{Spare}

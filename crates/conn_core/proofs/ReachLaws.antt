@@ -18,7 +18,7 @@ use Rattle.hub_link.proofs.HubMeaningRunLaws.{legal_append, state_append}
 use Rattle.hub_link.specs.declared.link.HubLink.{HubLink}
 use Rattle.hub_link.specs.HubLink.{RepresentsChanged, RepresentsLink, number_of}
 use Rattle.hub_link.specs.Sending.{IsOf, IsSent, Sends, after_sends}
-use Rattle.link_table.specs.Kept.{HasNoNumber, IsAbsent, IsAt, Kept, is_newer, number_at}
+use Rattle.conn_core.specs.Kept.{HasNoNumber, IsAbsent, IsAt, Kept, is_newer, number_at}
 use Rattle.list_laws.specs.declared.memory.Memory.{Memory}
 use Rattle.ports.specs.declared.entry.Entry.{Entry}
 use Rattle.ports.specs.declared.entry.Entry.TheVariants.{Listen, Next, Send, Close}

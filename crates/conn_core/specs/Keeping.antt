@@ -1,6 +1,6 @@
 -- What is kept of the links of a state.
 use Rattle.std.specs.Prelude.{◌≡◌, ℕ, List, [], ◌∷◌}
-use Rattle.link_table.specs.Kept.{Kept, is_newer}
+use Rattle.conn_core.specs.Kept.{Kept, is_newer}
 use Rattle.hub_link.specs.hub_meaning.Laws.{AreRising}
 use Rattle.hub_link.specs.hub_meaning.Links.{Link, connected, is_above, wants_of}
 use Rattle.hub_link.specs.declared.link.HubLink.{HubLink}

@@ -1,7 +1,7 @@
 -- What is known of links from their log, where they report it.
 use Rattle.std.specs.Prelude.{◌≡◌, ℕ, ◌<◌, IsTrue, List, [], ◌∷◌, ◌++◌, length, Option}
 use Rattle.std.specs.Option.{ForSome}
-use Rattle.link_table.specs.Kept.{number_at}
+use Rattle.conn_core.specs.Kept.{number_at}
 use Rattle.ports.specs.Links.{is_unclosed}
 use Rattle.ports.specs.declared.entry.Entry.{Entry}
 use Rattle.ports.specs.declared.entry.Entry.TheVariants.{Next}

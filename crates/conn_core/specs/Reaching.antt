@@ -10,7 +10,7 @@ use Rattle.hub_link.specs.hub_meaning.Links.{new_link, opened, unblocked, want_o
 use Rattle.hub_link.specs.hub_meaning.Runs.{RunState, plain, state_from, with_links}
 use Rattle.hub_link.specs.declared.link.HubLink.{HubLink}
 use Rattle.hub_link.specs.HubLink.{RepresentsLink}
-use Rattle.link_table.specs.Kept.{Kept, is_newer, number_at}
+use Rattle.conn_core.specs.Kept.{Kept, is_newer, number_at}
 use Rattle.list_laws.specs.declared.memory.Memory.{Memory}
 use Rattle.ports.specs.declared.entry.Entry.{Entry}
 use Rattle.ports.specs.declared.links.What.{What}

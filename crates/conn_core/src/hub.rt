@@ -10,6 +10,7 @@ ghost use Rattle.hub_link.specs.msg_replies.Arriving.{Arrives, reported};
 ghost use Rattle.ports.specs.Counts.{Rose};
 ghost use Rattle.stream_meaning.specs.Arrivals.{Arrival, Elapsed};
 
+use crate::LinkTable;
 use crate::lines::write_lines;
 use crate::links::{change, settle};
 use crate::stop::Stop;
@@ -18,7 +19,6 @@ use hub_link::HubLink;
 use hub_link::event_core::Core;
 use hub_link::hub_meaning::next_moment;
 use hub_link::msg_replies::Spare;
-use link_table::LinkTable;
 use ports::{Links, Sink, Turn, Wants, What};
 use pred_eval::Patterns;
 use std::alloc::Global;

@@ -5,6 +5,7 @@ mod hub;
 mod lines;
 mod links;
 mod stop;
+mod table;
 
 pub use hub::Hub;
 pub use hub_link;

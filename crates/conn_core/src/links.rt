@@ -3,12 +3,12 @@ ghost use Rattle.conn_core.specs.Known.{AreUnclosed, IsOpenedBy, IsUnclosed};
 ghost use Rattle.conn_core.specs.Reaching.{links_after, AddsLink, Changes, Finishes, Settles};
 ghost use Rattle.hub_link.specs.Added.{Added};
 ghost use Rattle.hub_link.specs.hub_meaning.Links.{broken, changed, ended, opened, unblocked};
-ghost use Rattle.link_table.specs.Kept.{is_newer, IsAt};
+ghost use Rattle.conn_core.specs.Kept.{is_newer, IsAt};
 
+use crate::LinkTable;
 use ev_types::Memory;
 use hub_link::HubLink;
 use hub_link::hub_meaning::may_connect;
-use link_table::LinkTable;
 use ports::{Links, What};
 use std::alloc::Global;
 

@@ -4,7 +4,7 @@ use Rattle.std.specs.Prelude.{Option}
 use Rattle.hub_link.specs.declared.link.HubLink.{HubLink}
 use Rattle.hub_link.proofs.AddedLaws.{added_nothing}
 use Rattle.hub_link.specs.hub_meaning.Links.{connected_limit, opened}
-use Rattle.link_table.specs.Kept.{Kept}
+use Rattle.conn_core.specs.Kept.{Kept}
 use Rattle.ports.specs.Links.{grown}
 use Rattle.ports.specs.declared.entry.Entry.{Entry}
 use Rattle.ports.specs.declared.entry.Entry.TheVariants.{Close}

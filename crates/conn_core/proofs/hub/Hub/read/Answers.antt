@@ -3,7 +3,7 @@ use Rattle.std.proofs.lemmas.List.{get_or_read, length-set}
 use Rattle.std.proofs.lemmas.Result.{err_from_is_err_and}
 use Rattle.hub_link.specs.declared.link.HubLink.{HubLink}
 use Rattle.hub_link.proofs.AddedLaws.{added_nothing, added_weaken}
-use Rattle.link_table.specs.Kept.{Kept}
+use Rattle.conn_core.specs.Kept.{Kept}
 use Rattle.hub_link.specs.msg_replies.Arriving.{reported}
 use Rattle.ports.specs.declared.links.What.TheVariants.{Read}
 use Rattle.conn_core.specs.Occurring.{OccursFrom}

@@ -1,10 +1,10 @@
 use Rattle.std.proofs.Common.{◌≡◌, ◌<◌, List, length, ap, sym, ◌∙◌, subst, arith, ℕ}
 use Rattle.std.specs.List.{remove}
 use Rattle.std.proofs.lemmas.List.Edits.{length-remove}
-use Rattle.link_table.specs.Kept.{AreOld, AreRising, Kept}
+use Rattle.conn_core.specs.Kept.{AreOld, AreRising, Kept}
 use Rattle.ports.specs.declared.links.Want.{Want}
-use Rattle.link_table.proofs.Numbers.{removed_old, removed_rising}
-use Rattle.link_table.proofs.table.LinkTable.remove.Goals as goal
+use Rattle.conn_core.proofs.Numbers.{removed_old, removed_rising}
+use Rattle.conn_core.proofs.table.LinkTable.remove.Goals as goal
 
 pub invariant_of-self : goal.invariant_of-self
 invariant_of-self g c =

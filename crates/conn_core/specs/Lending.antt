@@ -1,8 +1,8 @@
 -- How a value of the table is lent.
 use Rattle.std.specs.Prelude.{ℕ, slice_set}
 use Rattle.std.specs.Borrow.{Lends, MutBor, Fml, RattleType}
-use Rattle.link_table.specs.Kept.{Kept}
-use Rattle.link_table.specs.contracts.table.LinkTable.{the_row}
+use Rattle.conn_core.specs.Kept.{Kept}
+use Rattle.conn_core.specs.contracts.table.LinkTable.{the_row}
 
 -- the table ends with the last value written through the reference at the place
 abbrev pub LendsValue : (T : RattleType) → MutBor (Kept T.Denot) → ℕ → MutBor T.Denot → Fml

@@ -1,9 +1,8 @@
-use Rattle.std.proofs.Common.{true, ◌≡◌, ap, sym, subst}
+use Rattle.std.proofs.Common.{true, ◌≡◌, ap, sym, subst, ℕ}
 use Rattle.std.specs.Prelude.{Option}
-use Rattle.std.proofs.Common.{ℕ}
-use Rattle.link_table.specs.Kept.{Kept, is_newer}
-use Rattle.link_table.proofs.Numbers.{noted_old}
-use Rattle.link_table.proofs.table.LinkTable.note.Goals as goal
+use Rattle.conn_core.specs.Kept.{Kept, is_newer}
+use Rattle.conn_core.proofs.Numbers.{noted_old}
+use Rattle.conn_core.proofs.table.LinkTable.note.Goals as goal
 
 pub invariant_of-self : goal.invariant_of-self
 invariant_of-self g c =

@@ -1,9 +1,9 @@
 use Rattle.std.proofs.Common.{◌≡◌, ◌<◌, ℕ, List, ap, sym, subst, arith}
 use Rattle.std.specs.Prelude.{Option, Some}
-use Rattle.link_table.specs.Kept.{AreOld, Kept}
+use Rattle.conn_core.specs.Kept.{AreOld, Kept}
 use Rattle.ports.specs.declared.links.Want.{Want}
-use Rattle.link_table.proofs.Numbers.{new_is_absent}
-use Rattle.link_table.proofs.table.LinkTable.is_newer.Goals as goal
+use Rattle.conn_core.proofs.Numbers.{new_is_absent}
+use Rattle.conn_core.proofs.table.LinkTable.is_newer.Goals as goal
 
 pub returns-in-Some-clause-absent : goal.returns-in-Some-clause-absent
 returns-in-Some-clause-absent g c = λ newer.

@@ -1,9 +1,9 @@
 use Rattle.std.proofs.Common.{true, ◌≡◌, ◌∷◌, [], ◌++◌, List, length, ap, sym, ◌∙◌, subst, arith, ℕ}
 use Rattle.std.specs.Prelude.{Option, Some}
 use Rattle.std.proofs.lemmas.Grind.{common_steps}
-use Rattle.link_table.specs.Kept.{AreOld, AreRising, Kept, is_newer}
-use Rattle.link_table.proofs.Numbers.{added_old, added_rising, length_more}
-use Rattle.link_table.proofs.table.LinkTable.add.Goals as goal
+use Rattle.conn_core.specs.Kept.{AreOld, AreRising, Kept, is_newer}
+use Rattle.conn_core.proofs.Numbers.{added_old, added_rising, length_more}
+use Rattle.conn_core.proofs.table.LinkTable.add.Goals as goal
 
 pub invariant_of-self-2 : goal.invariant_of-self-2
 invariant_of-self-2 g c =

@@ -1,9 +1,9 @@
 use Rattle.std.proofs.Common.{◌≡◌, ◌<◌, List, length, get_or, set, ap, sym, ◌∙◌, subst, refl, ℕ}
 use Rattle.std.proofs.lemmas.List.{get_or_default, length-set}
-use Rattle.link_table.specs.Kept.{AreOld, AreRising, Kept, number_at}
+use Rattle.conn_core.specs.Kept.{AreOld, AreRising, Kept, number_at}
 use Rattle.ports.specs.declared.links.Want.{Want}
-use Rattle.link_table.proofs.Numbers.{no_want, set_old, set_rising}
-use Rattle.link_table.proofs.table.LinkTable.set_want.Goals as goal
+use Rattle.conn_core.proofs.Numbers.{no_want, set_old, set_rising}
+use Rattle.conn_core.proofs.table.LinkTable.set_want.Goals as goal
 
 pub invariant_of-self : goal.invariant_of-self
 invariant_of-self g c =

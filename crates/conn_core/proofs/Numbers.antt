@@ -13,7 +13,7 @@ use Rattle.std.proofs.lemmas.List.{get_or_append_left, get_or-append_right, get_
 use Rattle.std.proofs.lemmas.List.{length-set}
 use Rattle.std.proofs.lemmas.List.Edits.{length-remove, get_or-remove_below, get_or-remove_above}
 use Rattle.std.proofs.lemmas.List.Sorted.{IsNonDecreasingBy-from_default}
-use Rattle.link_table.specs.Kept.{AreOld, AreRising, HasNoNumber, HasNumberAt, is_newer, number_at}
+use Rattle.conn_core.specs.Kept.{AreOld, AreRising, HasNoNumber, HasNumberAt, is_newer, number_at}
 use Rattle.ports.specs.declared.links.Want.{Want}
 
 abbrev pub number_in : Want → ℕ

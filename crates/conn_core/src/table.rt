@@ -1,7 +1,7 @@
 ghost use Rattle.std.specs.Prelude.{◌≡◌, ◌<◌, true, [], ◌∷◌, ◌++◌, length, remove, slice_index_or, slice_set, IfErr, IfOk, IsTrue, MatchOption, OnErr, OnOk};
 ghost use Rattle.std.specs.Borrow.{sem};
-ghost use Rattle.link_table.specs.Kept.{is_newer, number_at, AreRising, HasNoNumber, HasNumberAt, IsAbsent, IsAt};
-ghost use Rattle.link_table.specs.Lending.{LendsValue};
+ghost use Rattle.conn_core.specs.Kept.{is_newer, number_at, AreRising, HasNoNumber, HasNumberAt, IsAbsent, IsAt};
+ghost use Rattle.conn_core.specs.Lending.{LendsValue};
 
 use list_laws::{Items, Memory};
 use ports::{Want, Wants};
@@ -22,7 +22,7 @@ pub struct LinkTable<T> {
 
 impl<T> Model for LinkTable<T> {
     ghost use Rattle.std.specs.Prelude.{◌≡◌, length};
-    ghost use Rattle.link_table.specs.Kept.{AreOld, AreRising, Kept};
+    ghost use Rattle.conn_core.specs.Kept.{AreOld, AreRising, Kept};
 
     ghost Value = { Kept T };
 

@@ -1,8 +1,8 @@
 use Rattle.std.proofs.Common.{rules}
 use Rattle.std.proofs.lemmas.List.Sorted.{answers_always}
 use Rattle.ports.specs.declared.links.Want.{Want}
-use Rattle.link_table.proofs.Numbers.{searched}
-use Rattle.link_table.proofs.table.place_of.Goals as goal
+use Rattle.conn_core.proofs.Numbers.{searched}
+use Rattle.conn_core.proofs.table.place_of.Goals as goal
 
 -- the closure gives a want's number
 pub returns : goal.returns
