@@ -7,7 +7,7 @@ ghost use Rattle.linked_slots.specs.Table.{value_at, Changes, IsLive};
 ghost use Rattle.tick_schedule.specs.Queue.{IsRising, Sets};
 ghost use Rattle.pred_eval.specs.Truth.{holds};
 ghost use Rattle.live_index.specs.Index.{events_lent, reply_len, visited};
-ghost use Rattle.packed_key.specs.Key.{key_lent};
+ghost use Rattle.stored_event.specs.Key.{key_lent};
 ghost use Rattle.live_index.specs.Slots.{key_of, events_in, events_at, event_of, slot_of, is_by, is_past, AreLive, IsLinked, IsStored, IsTaking, Puts};
 
 mod packed;
@@ -18,13 +18,12 @@ use ev_types::{DEFAULT_TTL, Event, Events, LATEST_MOMENT, Memory, Text};
 use key_hints::Hints;
 use linked_slots::StepTable;
 use list_laws::Ids;
-use packed_key::KeyRef;
 use pred_eval::Pred;
 use std::alloc::Global;
 use std::collections::BTreeSet;
 use std::mem;
 use step_count::{Ledger, NoLedger, Steps};
-use stored_event::{EMPTY_REPLY, EventForm, MeasuredEvent, Stored};
+use stored_event::{EMPTY_REPLY, EventForm, KeyRef, MeasuredEvent, Stored};
 use tick_schedule::DueQueue;
 
 /// The events of an index, by host and by service, absent before present.

@@ -3,8 +3,7 @@ ghost use Rattle.list_laws.specs.Prefix.{IsPrefix};
 ghost use Rattle.riemann_msg.specs.Spelling.{event_content, repeated, spelled};
 ghost use Rattle.stored_event.specs.Stored.{reply_len};
 
-use ev_types::{Blob, Event, Field, Memory, Text};
-use ev_types::EventFields;
+use ev_types::{Blob, Event, EventFields, Field, Memory, Text};
 use riemann_msg::{found_len, write_found};
 use std::alloc::Global;
 use std::marker::Model;

@@ -1,14 +1,14 @@
 ghost use Rattle.std.specs.Prelude.{◌≡◌, ◌+◌, ◌^◌, ◌≤◌, [], ◌∷◌, ◌++◌, IfOk, OnErr, OnOk};
 ghost use Rattle.list_laws.specs.Prefix.{IsPrefix};
-ghost use Rattle.packed_key.specs.Key.{key_lent, key_of};
+ghost use Rattle.stored_event.specs.Key.{key_lent, key_of};
 ghost use Rattle.riemann_msg.specs.Spelling.{event_content, repeated, spelled};
 ghost use Rattle.stored_event.specs.Stored.{reply_len};
 
+use crate::KeyRef;
 use crate::form::EventForm;
 use crate::measured::MeasuredEvent;
 use ev_types::{Blob, Event, EventFields, Field, Memory, Text};
 use packed_event::{PackedEvent, PackedRef};
-use packed_key::KeyRef;
 use std::alloc::Global;
 use std::marker::Model;
 use std::mem;

@@ -1,8 +1,8 @@
 use crate::packed::FULL;
 use ev_types::Event;
 use packed_event::{PackedEvent, PackedRef};
-use packed_key::KeyRef;
 use std::cmp::Ordering;
+use stored_event::KeyRef;
 
 /// Whether the event, which owns its parts, has this key.
 fn is_key_of(event: &Event, key: KeyRef<'_>) -> bool {

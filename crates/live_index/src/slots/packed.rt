@@ -8,10 +8,9 @@ use super::{NewKey, Slots, due_of, set_due};
 use ev_types::{Memory, Text};
 use linked_slots::StepTable;
 use packed_event::{PackedEvent, PackedRef};
-use packed_key::KeyRef;
 use std::alloc::Global;
 use step_count::{NoLedger, Steps};
-use stored_event::Stored;
+use stored_event::{KeyRef, Stored};
 
 impl Slots<PackedEvent> {
     /// Copies the event into the slots, in place of the one of its host and service. An event whose state is "expired"

@@ -4,7 +4,7 @@ use Rattle.std.specs.Hash.FoldHasher as folding
 use Rattle.std.specs.declared.hash.FoldHasher.{FoldHasher}
 use Rattle.ev_types.specs.declared.event.Event.{Event}
 use Rattle.key_map.specs.Keys.{IndexKey}
-use Rattle.packed_key.specs.declared.key.KeyRef.{KeyRef}
+use Rattle.stored_event.specs.declared.key.KeyRef.{KeyRef}
 
 -- the host and the service of an event
 abbrev pub key_of : Event → IndexKey

@@ -1,7 +1,7 @@
 ghost use Rattle.std.specs.Prelude.{◌≡◌, ◌↔◌, option_copied, IsTrue};
 ghost use Rattle.index_log.specs.IndexKey.{text_cmp};
 ghost use Rattle.key_map.specs.Keys.{key_cmp};
-ghost use Rattle.packed_key.specs.Key.{hash_fed, key_hash, key_lent, key_of};
+ghost use Rattle.stored_event.specs.Key.{hash_fed, key_hash, key_lent, key_of};
 
 use crate::bytes::are_equal;
 use ev_types::{Event, Text};
