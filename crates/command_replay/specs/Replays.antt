@@ -13,7 +13,7 @@ use Rattle.file_run.specs.Runs.{RunsScript, RunsWhole}
 use Rattle.file_run.specs.hub_run.declared.fault.RunFault.{RunFault}
 use Rattle.file_run.specs.hub_run.declared.fault.RunFault.TheVariants as cause
 use Rattle.file_run.specs.hub_run.declared.setup.Setup.{Setup}
-use Rattle.link_lines.specs.LinkLines.{link_lines}
+use Rattle.script_text.specs.LinkLines.{link_lines}
 use Rattle.ports.specs.Counts.{IsStill, Rose}
 use Rattle.ports.specs.Reading.{IsHeld}
 use Rattle.ports.specs.Writing.{Got, GotPrefix, SinkReport}

@@ -6,3 +6,5 @@ pub mod StepLemmas
 pub mod SayLemmas
 pub mod GrammarLaws
 pub mod FaultLaws
+pub mod WrittenLaws
+pub mod NumberLaws

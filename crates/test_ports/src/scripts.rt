@@ -1,10 +1,9 @@
 use crate::sockets::listen_on;
 use ev_types::Memory;
-use link_lines::write_link_lines;
 use ports::{
     Links, ListenAnswer, MemSink, PIECE_LIMIT, ScriptLinks, SendAnswer, Turn, Wants, What,
 };
-use script_text::read_script;
+use script_text::{read_script, write_link_lines};
 use std::alloc::{AllocError, Global};
 use std::str;
 

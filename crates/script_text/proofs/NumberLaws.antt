@@ -15,8 +15,8 @@ use Rattle.ports.specs.declared.script.LinkEvent.{LinkEvent}
 use Rattle.ports.specs.declared.script.LinkEvent.TheVariants as event
 use Rattle.ports.specs.declared.script.Step.{Step}
 use Rattle.ports.specs.declared.script.Step.TheVariants.{Turn, Take, Fail}
-use Rattle.link_lines.specs.LinkLines.{number_in, rising, opened_numbers}
-use Rattle.link_lines.specs.NumberLaws.{IsOpenedIn, NumbersAreThoseOpened, NumbersRise}
+use Rattle.script_text.specs.LinkLines.{number_in, rising, opened_numbers}
+use Rattle.script_text.specs.NumberLaws.{IsOpenedIn, NumbersAreThoseOpened, NumbersRise}
 
 -- ---- members
 

@@ -1,7 +1,7 @@
 use Rattle.std.proofs.lemmas.Result.{err_from_is_err_and}
-use Rattle.link_lines.specs.LinkLines.{line_after}
-use Rattle.link_lines.proofs.WrittenLaws.{prefix_line}
-use Rattle.link_lines.proofs.write.write_lines.Goals as goal
+use Rattle.script_text.specs.LinkLines.{line_after}
+use Rattle.script_text.proofs.WrittenLaws.{prefix_line}
+use Rattle.script_text.proofs.write.write_lines.Goals as goal
 
 pub returns-in_err-write_line-clause-front : goal.returns-in_err-write_line-clause-front
 returns-in_err-write_line-clause-front g c =

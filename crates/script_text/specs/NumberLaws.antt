@@ -4,7 +4,7 @@ use Rattle.std.specs.List.Sorted.{IsStrictlyIncreasing}
 use Rattle.ports.specs.declared.script.LinkEvent.TheVariants.{Opened}
 use Rattle.ports.specs.declared.script.Step.{Step}
 use Rattle.ports.specs.declared.script.Step.TheVariants.{Turn}
-use Rattle.link_lines.specs.LinkLines.{opened_numbers}
+use Rattle.script_text.specs.LinkLines.{opened_numbers}
 
 -- one of the lines is a turn that opens the link
 pub record IsOpenedIn (steps : List Step) (link : ℕ) : Type 0 where

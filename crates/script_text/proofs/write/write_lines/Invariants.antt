@@ -1,8 +1,8 @@
 use Rattle.std.proofs.Common.{◌≡◌, take}
 use Rattle.std.specs.List.{flat_map}
 use Rattle.ports.specs.Writing.{Got}
-use Rattle.link_lines.specs.LinkLines.{line_after}
-use Rattle.link_lines.proofs.write.write_lines.Given as goal
+use Rattle.script_text.specs.LinkLines.{line_after}
+use Rattle.script_text.proofs.write.write_lines.Given as goal
 
 abbrev pub invariant-loop-number : goal.invariant-loop-number
 invariant-loop-number g l = record {

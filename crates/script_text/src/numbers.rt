@@ -1,7 +1,7 @@
 ghost use Rattle.std.specs.Prelude.{◌≡◌, fold, IfOk, OnOk};
 ghost use Rattle.std.specs.BTreeSet.{insert_key};
 ghost use Rattle.std.specs.Ordering.{nat_cmp};
-ghost use Rattle.link_lines.specs.LinkLines.{number_in, opened_numbers};
+ghost use Rattle.script_text.specs.LinkLines.{number_in, opened_numbers};
 
 use ev_types::{Items, Memory};
 use ports::{LinkEvent, Step};

@@ -2,8 +2,8 @@ ghost use Rattle.std.specs.Prelude.{◌≡◌, ◌≢◌, ◌<◌, ◌++◌, len
 ghost use Rattle.ports.specs.Counts.{Rose};
 ghost use Rattle.ports.specs.Writing.{FailsToPut, Got, GotPrefix, Puts};
 ghost use Rattle.std.specs.List.{flat_map};
-ghost use Rattle.link_lines.specs.LinkLines.{line_after, link_line, link_lines, taken_text};
-ghost use Rattle.link_lines.specs.declared.write.LineFault.TheVariants.{Memory as out_of_memory};
+ghost use Rattle.script_text.specs.LinkLines.{line_after, link_line, link_lines, taken_text};
+ghost use Rattle.script_text.specs.declared.write.LineFault.TheVariants.{Memory as out_of_memory};
 
 use crate::numbers::opened_numbers;
 use ev_types::Memory;

@@ -1,2 +1,0 @@
-pub mod WrittenLaws
-pub mod NumberLaws

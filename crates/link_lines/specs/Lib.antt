@@ -1,2 +1,0 @@
-pub mod LinkLines
-pub mod NumberLaws
