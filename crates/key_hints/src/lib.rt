@@ -1,6 +1,0 @@
-//! Where keys were found last, by their hashes.
-#![tactic(auto)]
-
-mod hints;
-
-pub use hints::Hints;
