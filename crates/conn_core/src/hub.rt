@@ -10,10 +10,10 @@ ghost use Rattle.hub_link.specs.msg_replies.Arriving.{Arrives, reported};
 ghost use Rattle.ports.specs.Counts.{Rose};
 ghost use Rattle.stream_meaning.specs.Arrivals.{Arrival, Elapsed};
 
-use crate::LinkTable;
 use crate::lines::write_lines;
 use crate::links::{change, settle};
 use crate::stop::Stop;
+use crate::table::LinkTable;
 use ev_types::{Memory, Notices};
 use hub_link::HubLink;
 use hub_link::event_core::Core;

@@ -5,7 +5,7 @@ ghost use Rattle.hub_link.specs.Added.{Added};
 ghost use Rattle.hub_link.specs.hub_meaning.Links.{broken, changed, ended, opened, unblocked};
 ghost use Rattle.conn_core.specs.Kept.{is_newer, IsAt};
 
-use crate::LinkTable;
+use crate::table::LinkTable;
 use ev_types::Memory;
 use hub_link::HubLink;
 use hub_link::hub_meaning::may_connect;
