@@ -23,8 +23,8 @@ use Rattle.ports.specs.Playing.{bytes_taken}
 use Rattle.ports.specs.Writing.{Got, GotPrefix}
 use Rattle.ports.specs.declared.entry.Entry.{Entry}
 use Rattle.ports.specs.declared.links.TheConstants.{PIECE_LIMIT}
-use Rattle.run_laws.specs.Laws.{FeedsAreAnswered}
-use Rattle.run_laws.specs.Taking.{replies_on}
+use Rattle.file_run.specs.hub_run.Laws.{FeedsAreAnswered}
+use Rattle.file_run.specs.hub_run.TakenBytes.{replies_on}
 use Rattle.command_feed.specs.Feeding.{WritesReplies}
 use Rattle.command_feed.specs.Feeds.{BytesEnd, FeedsAll}
 

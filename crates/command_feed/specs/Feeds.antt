@@ -26,7 +26,7 @@ use Rattle.ports.specs.Reading.{IsHeld}
 use Rattle.ports.specs.Writing.{Got, GotPrefix, SinkReport}
 use Rattle.ports.specs.declared.entry.Entry.{Entry}
 use Rattle.ports.specs.declared.links.TheConstants.{PIECE_LIMIT}
-use Rattle.run_laws.specs.Taking.{replies_on}
+use Rattle.file_run.specs.hub_run.TakenBytes.{replies_on}
 use Rattle.file_run.specs.sexp_config.declared.config.Config.{Config as Configuration}
 use Rattle.file_run.specs.sexp_config.Config.{IsConfigOf}
 

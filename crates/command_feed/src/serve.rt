@@ -14,11 +14,10 @@ use crate::left::bytes_left;
 use command_setup::ending_of_fault;
 use ev_types::Blob;
 use file_run::command_io::{Ending, put_all};
-use file_run::hub_run::Setup;
+use file_run::hub_run::{Setup, feeds_are_answered};
 use file_run::run_script;
 use ports::{PIECE_LIMIT, ScriptLinks, Sink, feed_links};
 use pred_eval::Patterns;
-use run_laws::feeds_are_answered;
 use std::alloc::Global;
 use step_count::{Ledger, Steps};
 

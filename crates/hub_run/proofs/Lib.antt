@@ -1,3 +1,5 @@
+pub use Rattle.conn_core.proofs.HubMeaningLinkLaws
+pub use Rattle.conn_core.proofs.HubMeaningPrefixLaws
 pub mod AddsLaws
 pub mod TakenLaws
 pub mod TurnLaws
@@ -6,5 +8,7 @@ pub mod LoopLaws
 pub mod EndLaws
 pub mod FaultLaws
 pub mod PlainLaws
-pub use Rattle.conn_core.proofs.HubMeaningLinkLaws
-pub use Rattle.conn_core.proofs.HubMeaningPrefixLaws
+pub mod EntryLaws
+pub mod PrefixLaws
+pub mod FreeLaws
+pub mod FeedLaws

@@ -4,7 +4,7 @@ use Rattle.std.proofs.Common.{refl, ap, sym, ◌∙◌, subst, append-nil}
 use Rattle.std.specs.Prelude.{Option, Some, None}
 use Rattle.std.specs.List.{AllByRecursion}
 use Rattle.std.proofs.lemmas.List.{drop_at}
-use Rattle.hub_run.specs.event_core.Core.{CoreConfig}
+use Rattle.conn_core.specs.event_core.Core.{CoreConfig}
 use Rattle.list_laws.specs.Prefix.{IsPrefix}
 use Rattle.ports.specs.Pieces.{feed_script, pieces_of, read_step}
 use Rattle.ports.specs.Playing.{AreAnswered, IsAnswered, Playing, begun, bytes_taken, first_turn, is_turn_answer}
@@ -20,18 +20,18 @@ use Rattle.ports.specs.declared.script.LinkEvent.TheVariants as event
 use Rattle.ports.specs.declared.script.Step as script_step
 use Rattle.ports.specs.declared.script.Step.TheVariants.{Turn as turn_step, Take, Fail}
 use Rattle.ev_types.specs.Clock.{next_moment}
-use Rattle.hub_run.specs.hub_meaning.Laws.{AreRising, SentPrefix}
-use Rattle.hub_run.specs.hub_meaning.Legal.{AreSettled, IsLegal, IsLegalFrom, MayCome}
-use Rattle.hub_run.specs.hub_meaning.Links.{Link, changed, find_link, sent, unsent}
-use Rattle.hub_run.specs.hub_meaning.Runs.{RunState, Step, after_entry, after_step, entry_of, first_state, occurred}
-use Rattle.hub_run.specs.hub_meaning.Runs.{passed, state_after, state_from, turned}
-use Rattle.hub_run.specs.hub_meaning.Verdicts.{Refusal}
-use Rattle.hub_run.proofs.HubMeaningLinkLaws.{all_found}
-use Rattle.hub_run.proofs.HubMeaningPrefixLaws.{prefixes_are_sent_lem, rising_entry}
-use Rattle.run_laws.specs.Taking.{replies_of, replies_on, taken_of, taken_on}
-use Rattle.run_laws.proofs.FreeLaws.{AreFree, IsAllSent, IsGentle, free_after_close, free_after_send, free_occurred}
-use Rattle.run_laws.proofs.FreeLaws.{settled_sent}
-use Rattle.run_laws.proofs.TakenLaws.{taken_from}
+use Rattle.conn_core.specs.hub_meaning.Laws.{AreRising, SentPrefix}
+use Rattle.conn_core.specs.hub_meaning.Legal.{AreSettled, IsLegal, IsLegalFrom, MayCome}
+use Rattle.conn_core.specs.hub_meaning.Links.{Link, changed, find_link, sent, unsent}
+use Rattle.conn_core.specs.hub_meaning.Runs.{RunState, Step, after_entry, after_step, entry_of, first_state, occurred}
+use Rattle.conn_core.specs.hub_meaning.Runs.{passed, state_after, state_from, turned}
+use Rattle.conn_core.specs.hub_meaning.Verdicts.{Refusal}
+use Rattle.conn_core.proofs.HubMeaningLinkLaws.{all_found}
+use Rattle.conn_core.proofs.HubMeaningPrefixLaws.{prefixes_are_sent_lem, rising_entry}
+use Rattle.hub_run.specs.TakenBytes.{replies_of, replies_on, taken_of, taken_on}
+use Rattle.hub_run.proofs.FreeLaws.{AreFree, IsAllSent, IsGentle, free_after_close, free_after_send, free_occurred}
+use Rattle.hub_run.proofs.FreeLaws.{settled_sent}
+use Rattle.hub_run.proofs.PrefixLaws.{taken_from}
 
 -- ---- where a script is that takes all
 

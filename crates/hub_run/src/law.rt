@@ -1,4 +1,4 @@
-ghost use Rattle.run_laws.specs.Laws.{FeedsAreAnswered, PrefixesAreTaken, SendsAreTaken};
+ghost use Rattle.hub_run.specs.Laws.{FeedsAreAnswered, PrefixesAreTaken, SendsAreTaken};
 
 /// What a legal run of turns took of a link is what the link was sent, and a prefix of its replies.
 pub fn sends_are_taken()

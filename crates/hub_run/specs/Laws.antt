@@ -1,15 +1,15 @@
 -- Laws of runs.
 use Rattle.std.specs.Prelude.{◌≡◌, ℕ, List, ◌∷◌}
-use Rattle.hub_run.specs.event_core.Core.{CoreConfig}
-use Rattle.hub_run.specs.hub_meaning.Legal.{AreSettled, IsLegal}
-use Rattle.hub_run.specs.hub_meaning.Runs.{state_after}
+use Rattle.conn_core.specs.event_core.Core.{CoreConfig}
+use Rattle.conn_core.specs.hub_meaning.Legal.{AreSettled, IsLegal}
+use Rattle.conn_core.specs.hub_meaning.Runs.{state_after}
 use Rattle.hub_run.specs.Taken.{TakenTurn, entries_of, steps_of}
 use Rattle.list_laws.specs.Prefix.{IsPrefix}
 use Rattle.ports.specs.Pieces.{feed_script}
 use Rattle.ports.specs.Playing.{IsScriptedRun, bytes_taken}
 use Rattle.ports.specs.declared.entry.Entry.TheVariants.{Listen}
 use Rattle.ports.specs.declared.links.ListenAnswer.TheVariants.{Ready}
-use Rattle.run_laws.specs.Taking.{replies_on, taken_on}
+use Rattle.hub_run.specs.TakenBytes.{replies_on, taken_on}
 
 -- what the sends of a run took of a link is what the run comes to
 abbrev pub SendsAreTaken : Type 0

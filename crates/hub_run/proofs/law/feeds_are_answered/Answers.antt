@@ -3,9 +3,9 @@ use Rattle.hub_run.specs.Taken.{steps_of}
 use Rattle.ports.specs.Pieces.{feed_script}
 use Rattle.ports.specs.Playing.{AreAnswered, begun, bytes_taken, succeeded}
 use Rattle.ports.specs.declared.entry.Entry.{Entry}
-use Rattle.run_laws.proofs.EntryLaws.{steps_entries}
-use Rattle.run_laws.proofs.FeedLaws.{fed_from}
-use Rattle.run_laws.proofs.law.feeds_are_answered.Goals as goal
+use Rattle.hub_run.proofs.EntryLaws.{steps_entries}
+use Rattle.hub_run.proofs.FeedLaws.{fed_from}
+use Rattle.hub_run.proofs.law.feeds_are_answered.Goals as goal
 
 pub returns : goal.returns
 returns c config limit bytes address secs turns run legal settled =

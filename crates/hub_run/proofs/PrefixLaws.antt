@@ -4,7 +4,7 @@ use Rattle.std.proofs.Common.{subst, append-nil, append_assoc}
 use Rattle.std.specs.Prelude.{Option, Some, None}
 use Rattle.std.specs.Option.{option_map}
 use Rattle.std.proofs.lemmas.Bool.{eqb-true, eq-eqb}
-use Rattle.hub_run.specs.event_core.Core.{CoreConfig}
+use Rattle.conn_core.specs.event_core.Core.{CoreConfig}
 use Rattle.framing.specs.Frames.{length_at, partial}
 use Rattle.ports.specs.Playing.{bytes_taken, is_turn_answer, taken_by, taken_by_send}
 use Rattle.ports.specs.declared.entry.Entry.{Entry}
@@ -15,17 +15,17 @@ use Rattle.ports.specs.declared.links.Turn.{Turn}
 use Rattle.ports.specs.declared.links.What.{What}
 use Rattle.ports.specs.declared.links.What.TheVariants as what
 use Rattle.ev_types.specs.Clock.{next_moment}
-use Rattle.hub_run.specs.hub_meaning.Legal.{IsLegalFrom, MayCome}
-use Rattle.hub_run.specs.hub_meaning.declared.stage.Stage.TheVariants.{ReadClosed, Closing}
-use Rattle.hub_run.specs.hub_meaning.Links.{Link, changed, closed, broken, ended, find_link, has_number, is_above}
-use Rattle.hub_run.specs.hub_meaning.Links.{is_connected, is_open, new_link, opened, sent, unblocked, with_stage}
-use Rattle.hub_run.specs.hub_meaning.Replies.{reply_to_oversized}
-use Rattle.hub_run.specs.hub_meaning.Runs.{RunState, Step, Talk, after_entry, after_step, all_answered, answered}
-use Rattle.hub_run.specs.hub_meaning.Runs.{cut_off, entry_of, is_oversized, messages_in, occurred, passed, read_by}
-use Rattle.hub_run.specs.hub_meaning.Runs.{read_from, state_from, talk_of, turned, with_reply, with_talk}
-use Rattle.hub_run.specs.hub_meaning.Verdicts.{Message, Refusal}
-use Rattle.hub_run.proofs.HubMeaningLinkLaws.{KeepsNumber, broken_number, ended_number, found_number, unblocked_number}
-use Rattle.run_laws.specs.Taking.{taken_of, taken_on}
+use Rattle.conn_core.specs.hub_meaning.Legal.{IsLegalFrom, MayCome}
+use Rattle.conn_core.specs.hub_meaning.declared.stage.Stage.TheVariants.{ReadClosed, Closing}
+use Rattle.conn_core.specs.hub_meaning.Links.{Link, changed, closed, broken, ended, find_link, has_number, is_above}
+use Rattle.conn_core.specs.hub_meaning.Links.{is_connected, is_open, new_link, opened, sent, unblocked, with_stage}
+use Rattle.conn_core.specs.hub_meaning.Replies.{reply_to_oversized}
+use Rattle.conn_core.specs.hub_meaning.Runs.{RunState, Step, Talk, after_entry, after_step, all_answered, answered}
+use Rattle.conn_core.specs.hub_meaning.Runs.{cut_off, entry_of, is_oversized, messages_in, occurred, passed, read_by}
+use Rattle.conn_core.specs.hub_meaning.Runs.{read_from, state_from, talk_of, turned, with_reply, with_talk}
+use Rattle.conn_core.specs.hub_meaning.Verdicts.{Message, Refusal}
+use Rattle.conn_core.proofs.HubMeaningLinkLaws.{KeepsNumber, broken_number, ended_number, found_number, unblocked_number}
+use Rattle.hub_run.specs.TakenBytes.{taken_of, taken_on}
 
 -- ---- a link, after one was changed
 

@@ -1,6 +1,6 @@
 -- What a link of a number was sent, and what it is replied.
 use Rattle.std.specs.Prelude.{ℕ, List, [], Option, Some, None}
-use Rattle.hub_run.specs.hub_meaning.Links.{Link, find_link}
+use Rattle.conn_core.specs.hub_meaning.Links.{Link, find_link}
 
 abbrev pub taken_of : Option Link → List ℕ
 taken_of None = []

@@ -4,23 +4,23 @@ use Rattle.std.proofs.Common.{arith}
 use Rattle.std.specs.Prelude.{Option, Some, None, nat_lt}
 use Rattle.std.specs.List.{AllByRecursion, list_all}
 use Rattle.std.proofs.lemmas.Bool.{le-ltb, ne_eqb, and_left}
-use Rattle.hub_run.specs.event_core.Core.{CoreConfig}
+use Rattle.conn_core.specs.event_core.Core.{CoreConfig}
 use Rattle.framing.specs.Frames.{length_at, partial}
 use Rattle.ports.specs.declared.links.SendAnswer.TheVariants.{Took}
 use Rattle.ports.specs.declared.links.What.{What}
 use Rattle.ports.specs.declared.links.What.TheVariants as what
-use Rattle.hub_run.specs.hub_meaning.Legal.{IsSettledAs, AreSettled, MayClose, MayCloseAs, MaySend}
-use Rattle.hub_run.specs.hub_meaning.declared.stage.Stage.{Stage}
-use Rattle.hub_run.specs.hub_meaning.declared.stage.Stage.TheVariants.{Open, ReadClosed, Closing, Closed}
-use Rattle.hub_run.specs.hub_meaning.Links.{Link, changed, closed, ended, find_link, is_above, is_connected, is_open}
-use Rattle.hub_run.specs.hub_meaning.Links.{is_open_stage, is_read_closed_stage, new_link, opened, sent, unblocked}
-use Rattle.hub_run.specs.hub_meaning.Links.{unsent, with_stage}
-use Rattle.hub_run.specs.hub_meaning.Replies.{reply_to_oversized}
-use Rattle.hub_run.specs.hub_meaning.Runs.{RunState, Talk, all_answered, answered, cut_off, is_oversized, messages_in}
-use Rattle.hub_run.specs.hub_meaning.Runs.{occurred, read_by, read_from, talk_of, with_reply, with_talk}
-use Rattle.hub_run.specs.hub_meaning.Verdicts.{Message, Refusal}
-use Rattle.hub_run.proofs.HubMeaningLinkLaws.{all_changed, all_found, all_replaced}
-use Rattle.hub_run.specs.hub_meaning.Laws.{AreRising}
+use Rattle.conn_core.specs.hub_meaning.Legal.{IsSettledAs, AreSettled, MayClose, MayCloseAs, MaySend}
+use Rattle.conn_core.specs.hub_meaning.declared.stage.Stage.{Stage}
+use Rattle.conn_core.specs.hub_meaning.declared.stage.Stage.TheVariants.{Open, ReadClosed, Closing, Closed}
+use Rattle.conn_core.specs.hub_meaning.Links.{Link, changed, closed, ended, find_link, is_above, is_connected, is_open}
+use Rattle.conn_core.specs.hub_meaning.Links.{is_open_stage, is_read_closed_stage, new_link, opened, sent, unblocked}
+use Rattle.conn_core.specs.hub_meaning.Links.{unsent, with_stage}
+use Rattle.conn_core.specs.hub_meaning.Replies.{reply_to_oversized}
+use Rattle.conn_core.specs.hub_meaning.Runs.{RunState, Talk, all_answered, answered, cut_off, is_oversized, messages_in}
+use Rattle.conn_core.specs.hub_meaning.Runs.{occurred, read_by, read_from, talk_of, with_reply, with_talk}
+use Rattle.conn_core.specs.hub_meaning.Verdicts.{Message, Refusal}
+use Rattle.conn_core.proofs.HubMeaningLinkLaws.{all_changed, all_found, all_replaced}
+use Rattle.conn_core.specs.hub_meaning.Laws.{AreRising}
 
 abbrev pub IsWholeAs : List ℕ → Stage → Type 0
 IsWholeAs left Open = Unit {0}

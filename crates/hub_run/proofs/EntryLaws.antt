@@ -1,7 +1,7 @@
 -- The calls of a run, as steps and as turns.
 use Rattle.std.proofs.Common.{◌≡◌, List, [], ◌∷◌, ◌++◌, map, refl, ap, ◌∙◌}
 use Rattle.std.proofs.lemmas.List.{map-append}
-use Rattle.hub_run.specs.hub_meaning.Runs.{entry_of, plain}
+use Rattle.conn_core.specs.hub_meaning.Runs.{entry_of, plain}
 use Rattle.hub_run.specs.Taken.{TakenTurn, entries_of, steps_of, steps_of_turn}
 use Rattle.ports.specs.declared.entry.Entry.{Entry}
 use Rattle.ports.specs.declared.entry.Entry.TheVariants.{Next}

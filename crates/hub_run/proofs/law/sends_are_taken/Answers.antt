@@ -1,14 +1,14 @@
 use Rattle.std.proofs.Common.{List, sym, ◌∙◌, ap, subst}
-use Rattle.hub_run.specs.hub_meaning.Runs.{first_state, state_after}
+use Rattle.conn_core.specs.hub_meaning.Runs.{first_state, state_after}
 use Rattle.hub_run.specs.Taken.{steps_of}
 use Rattle.list_laws.specs.Prefix.{IsPrefix}
 use Rattle.ports.specs.Playing.{bytes_taken}
 use Rattle.ports.specs.declared.entry.Entry.{Entry}
-use Rattle.run_laws.specs.Taking.{replies_on}
-use Rattle.run_laws.proofs.EntryLaws.{steps_entries}
-use Rattle.run_laws.proofs.FeedLaws.{prefix_from}
-use Rattle.run_laws.proofs.TakenLaws.{taken_from}
-use Rattle.run_laws.proofs.law.sends_are_taken.Goals as goal
+use Rattle.hub_run.specs.TakenBytes.{replies_on}
+use Rattle.hub_run.proofs.EntryLaws.{steps_entries}
+use Rattle.hub_run.proofs.FeedLaws.{prefix_from}
+use Rattle.hub_run.proofs.PrefixLaws.{taken_from}
+use Rattle.hub_run.proofs.law.sends_are_taken.Goals as goal
 
 pub returns-clause-sent : goal.returns-clause-sent
 returns-clause-sent c config turns number legal =

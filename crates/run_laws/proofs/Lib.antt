@@ -1,4 +1,0 @@
-pub mod EntryLaws
-pub mod TakenLaws
-pub mod FreeLaws
-pub mod FeedLaws
