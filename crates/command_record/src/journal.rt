@@ -20,7 +20,8 @@ use journal_links::{TurnRecords, read_journal};
 use std::alloc::Global;
 use turn_journal::{JournalFault, begin_on, load_on};
 
-/// Opens the file of the name, and begins a journal of this configuration in it. It gives the end of the journal.
+/// Opens the file of the name, which it makes if there is none, and begins a journal of this configuration in it. It
+/// gives the end of the journal.
 pub(crate) fn begin_in<D: Disk>(
     alloc: Global,
     name: &Text,
@@ -34,7 +35,7 @@ pub(crate) fn begin_in<D: Disk>(
         found.has_record) }
     ensures end { IfOk result (λ found. found ≡ blank_end config.now) }
 {
-    match disk.open(alloc, name) {
+    match disk.create(alloc, name) {
         Ok(()) => begin_on(alloc, disk, config),
         Err(error) => Err(JournalFault::from(error)),
     }
@@ -49,7 +50,7 @@ pub(crate) struct Loaded {
     pub records: TurnRecords,
 }
 
-/// Opens the file of the name, and loads the journal in it.
+/// Opens the file of the name, which is there, and loads the journal in it.
 pub(crate) fn load_from<D: Disk>(
     alloc: Global,
     name: &Text,

@@ -15,8 +15,16 @@ pub trait Disk {
     /// What was done to the file, which names were opened, and how many calls failed.
     ghost report: { Self → DiskReport };
 
-    /// Opens the file of that name, and makes an empty one if there is none. Other calls are of this file.
+    /// Opens the file of that name, which is there. Other calls are of this file.
     fn open(&mut self, alloc: Global, name: &Text) -> Result<(), DiskError>
+        ensures past { (report self.new).past ≡ (report self.old).past }
+        ensures opened { (report self.new).opened ≡ option_map (λ names.
+            names ++ opened_by name.now result) (report self.old).opened }
+        ensures cause { HasCause (report self.old).faults (report self.new).faults result }
+        ensures memory { IsErrOf result DiskError.Memory → self.new ≡ self.old };
+
+    /// Opens the file of that name, and makes an empty one if there is none. Other calls are of this file.
+    fn create(&mut self, alloc: Global, name: &Text) -> Result<(), DiskError>
         ensures past { (report self.new).past ≡ (report self.old).past }
         ensures opened { (report self.new).opened ≡ option_map (λ names.
             names ++ opened_by name.now result) (report self.old).opened }

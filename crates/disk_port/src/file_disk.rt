@@ -1,21 +1,30 @@
-ghost use Rattle.std.specs.Prelude.{◌≡◌, ◌≤◌, [], None, Some, length, drop, IfOk, IsErrOf};
-ghost use Rattle.disk_port.specs.Calls.{HasCause};
+ghost use Rattle.std.specs.Prelude.{◌≡◌, ◌≤◌, ◌++◌, [], None, Some, length, drop, IfOk, IsErrOf};
+ghost use Rattle.disk_port.specs.Calls.{HasCause, opened_by};
 
 use crate::disk::{Disk, DiskError};
 use ev_types::Text;
 use ghost_logs::TextLog;
 use std::alloc::Global;
-use std::fs::{OpenFile, OpenOptions};
+use std::fs::{File, OpenFile, OpenOptions};
 use std::io;
 use std::io::{ErrorKind, Read, Seek, SeekFrom, Write};
+use std::path::Path;
 use std::rt::Files;
 
-/// A file of the machine, by its path. It reports the names that were opened, and not what the file holds. Before a
-/// file is open, each call but [`Disk::open`] fails.
+/// How many bytes of a file are written back at a time.
+const PIECE: usize = 65_536;
+
+/// A file of the machine, by its path. It reports the names that were opened, and not what the file holds. Before
+/// a file is open, each call but [`Disk::open`] and [`Disk::create`] fails.
+///
+/// Where a write of the system to the disk failed, as in another process, a later sync may succeed without it. So the
+/// first sync of a file, and each after one that failed, first writes back what the file has.
 #[derive(Drop)]
 pub struct FileDisk<'a, R: Files> {
     rt: &'a R,
     file: Option<R::File>,
+    /// Whether the last sync since the file was opened succeeded.
+    is_synced: bool,
     /// How many calls failed.
     pub faults: u64,
     // The names that were opened, which only proofs see.
@@ -31,8 +40,29 @@ impl<'a, R: Files> FileDisk<'a, R> {
         FileDisk {
             rt,
             file: None,
+            is_synced: false,
             faults: 0,
             opened: TextLog::fresh(),
+        }
+    }
+
+    /// Takes the outcome of opening the file of the name.
+    fn take(&mut self, name: &Text, opened: io::Result<R::File>) -> Result<(), DiskError>
+        ensures opened { self.new.opened ≡ self.old.opened ++ opened_by name.now result }
+        ensures cause { HasCause self.old.faults self.new.faults result }
+        ensures answered { IsErrOf result DiskError.Memory → ⊥ }
+    {
+        self.opened.add(name);
+        match opened {
+            Ok(file) => {
+                self.file = Some(file);
+                self.is_synced = false;
+                Ok(())
+            }
+            Err(_) => {
+                self.faults = self.faults.saturating_add(1);
+                Err(DiskError::Failed)
+            }
         }
     }
 }
@@ -41,18 +71,13 @@ impl<'a, R: Files> Disk for FileDisk<'a, R> {
     ghost report = { λ disk. record { past = None; opened = Some disk.opened; faults = disk.faults } };
 
     fn open(&mut self, _alloc: Global, name: &Text) -> Result<(), DiskError> {
-        let opened = open_file(self.rt, name.as_str());
-        self.opened.add(name);
-        match opened {
-            Ok(file) => {
-                self.file = Some(file);
-                Ok(())
-            }
-            Err(_) => {
-                self.faults = self.faults.saturating_add(1);
-                Err(DiskError::Failed)
-            }
-        }
+        let opened = open_file(self.rt, name.as_str(), false);
+        self.take(name, opened)
+    }
+
+    fn create(&mut self, _alloc: Global, name: &Text) -> Result<(), DiskError> {
+        let created = create_file(self.rt, name.as_str());
+        self.take(name, created)
     }
 
     fn length(&mut self, _alloc: Global) -> Result<u64, DiskError> {
@@ -80,19 +105,57 @@ impl<'a, R: Files> Disk for FileDisk<'a, R> {
     }
 
     fn sync(&mut self, _alloc: Global) -> Result<(), DiskError> {
-        let outcome = match &self.file {
-            Some(file) => file.sync_all(),
+        let outcome = match &mut self.file {
+            Some(file) => sync_file(file, self.is_synced),
             None => Err(not_open()),
         };
+        self.is_synced = outcome.is_ok();
         answer(&mut self.faults, outcome)
     }
 }
 
-/// Opens the file of the path for reading and writing, and makes an empty one if there is none.
-fn open_file<R: Files>(rt: &R, path: &str) -> io::Result<R::File> {
+/// Opens the file of the path for reading and writing.
+fn open_file<R: Files>(rt: &R, path: &str, create: bool) -> io::Result<R::File> {
     let mut options = OpenOptions::new();
-    options.read(true).write(true).create(true);
+    options.read(true).write(true).create(create);
     options.open(rt, path)
+}
+
+/// Opens the file of the path for reading and writing, and makes an empty one if there is none. Its name is then on the
+/// disk too.
+fn create_file<R: Files>(rt: &R, path: &str) -> io::Result<R::File> {
+    let file = open_file(rt, path, true)?;
+    // One that was there may have been made by a process that ended before it synced the directory.
+    File::open(rt, directory_of(path))?.sync_all()?;
+    Ok(file)
+}
+
+/// The directory that holds the file of the path.
+fn directory_of(path: &str) -> Path<'_> {
+    match Path::new(path).parent() {
+        Some(parent) if !parent.as_str().is_empty() => parent,
+        _ => Path::new("."),
+    }
+}
+
+/// Puts on the disk all that was written. What the file has is first written back, unless the last sync succeeded.
+fn sync_file<F: Read + Write + Seek + OpenFile>(file: &mut F, is_synced: bool) -> io::Result<()> {
+    if !is_synced {
+        write_back(file)?;
+    }
+    file.sync_all()
+}
+
+/// Writes the bytes of the file over themselves, so that the system has to write them to the disk.
+#[cold]
+fn write_back<F: Read + Write + Seek + OpenFile>(file: &mut F) -> io::Result<()> {
+    let mut piece = [0; PIECE];
+    let length = length_of(file)?;
+    for place in (0..length).step_by(PIECE) {
+        let count = read_from(file, place, &mut piece)?;
+        write_to(file, place, &piece[..count])?;
+    }
+    Ok(())
 }
 
 fn length_of<F: OpenFile>(file: &F) -> io::Result<u64> {

@@ -18,7 +18,7 @@ pub struct MemDisk {
     pub file: Blob,
     /// What was on the disk before the first call of `log`.
     pub synced: Blob,
-    /// The name of each call of [`Disk::open`] that did not answer out of memory, in order.
+    /// The name of each call of [`Disk::open`] and [`Disk::create`] that did not answer out of memory, in order.
     pub opened: Texts,
     /// The writes, also those that failed, and the syncs that succeeded, in order.
     pub log: DiskCalls,
@@ -129,6 +129,19 @@ impl Disk for MemDisk {
         let name = name.copy(alloc)?;
         self.opened.push(alloc, name)?;
         self.count_call()
+    }
+
+    fn create(&mut self, alloc: Global, name: &Text) -> Result<(), DiskError>
+        ensures past { (mem_report self.new).past ≡ (mem_report self.old).past }
+        ensures opened { (mem_report self.new).opened ≡ option_map (λ names.
+            names ++ opened_by name.now result) (mem_report self.old).opened }
+        ensures cause { HasCause self.old.faults self.new.faults result }
+        ensures memory { IsErrOf result DiskError.Memory → self.new ≡ self.old }
+
+        // More than a disk must report: which calls fail.
+        ensures counts { CountsCall (counted self.old) (counted self.new) result }
+    {
+        self.open(alloc, name)
     }
 
     fn length(&mut self, _alloc: Global) -> Result<u64, DiskError>

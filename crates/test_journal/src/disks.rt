@@ -93,9 +93,9 @@ fn stops_at_each(alloc: Global) -> bool {
     true
 }
 
-/// Whether the disk refuses to open a file at first, and then opens it.
+/// Whether the disk refuses to make a file at first, and then opens it.
 fn opens_again(alloc: Global, disk: &mut MemDisk, name: &Text) -> bool {
-    let refused = matches!(disk.open(alloc, name), Err(DiskError::Failed));
+    let refused = matches!(disk.create(alloc, name), Err(DiskError::Failed));
     let opened = disk.open(alloc, name).is_ok();
     refused && opened && disk.opened.len() == 2
 }
@@ -119,11 +119,12 @@ fn fails_at_first(alloc: Global) -> bool {
     }
 }
 
-/// Whether the path is opened, and its file is kept.
+/// Whether no file is opened of the path before one is made of it, and it is kept.
 fn is_filed<D: Disk>(alloc: Global, disk: &mut D, path: &str) -> Result<bool, DiskError> {
     let name = Text::from_str(alloc, path)?;
-    disk.open(alloc, &name)?;
-    is_kept(alloc, disk)
+    let absent = matches!(disk.open(alloc, &name), Err(DiskError::Failed));
+    disk.create(alloc, &name)?;
+    Ok(absent && is_kept(alloc, disk)?)
 }
 
 /// Whether a call of a disk fails before a file is open, and this comes of the file of the path, after so many faults.
@@ -150,7 +151,7 @@ fn has_bytes(rt: &HostRuntime, path: &str, wanted: &[u8]) -> bool {
 
 /// Whether a file is made of the path and kept. It is then removed.
 fn is_made(rt: &HostRuntime, path: &str) -> bool {
-    let kept = is_file(rt, rt.alloc(), path, Ok(true), 1);
+    let kept = is_file(rt, rt.alloc(), path, Ok(true), 2);
     let written = has_bytes(rt, path, b"abxyz");
     let removed = fs::remove_file(rt, path).is_ok();
     kept && written && removed
@@ -166,7 +167,7 @@ fn is_own_made(rt: &HostRuntime) -> bool {
 
 /// Whether no file is made of the path.
 fn is_refused(rt: &HostRuntime, path: &str) -> bool {
-    is_file(rt, rt.alloc(), path, Err(DiskError::Failed), 2)
+    is_file(rt, rt.alloc(), path, Err(DiskError::Failed), 3)
 }
 
 #[test]
