@@ -220,7 +220,7 @@ class Run:
 class Keeper:
     """The program, as it keeps a journal."""
 
-    def __init__(self, checks, *arguments, limit=None, user=None):
+    def __init__(self, checks, *arguments, limit=None, user=None, env=None):
         self.out = checks.folder / f"{len(checks.processes)}.out"
         settings = {}
         if limit is not None:
@@ -233,6 +233,7 @@ class Keeper:
                 stdout=subprocess.DEVNULL if limit is not None else out,
                 stderr=subprocess.PIPE,
                 user=user,
+                env=env,
                 **settings,
             )
         checks.processes.append(self.process)
@@ -547,7 +548,10 @@ def is_refused(checks):
         if path.read_bytes() != text:
             raise Failed("a file that was refused was changed")
     expect_end(Keeper(checks, "record", config(checks), checks.folder / "absent" / "j"), DISK_FAULT, DISK_FAILED)
-    expect_end(Keeper(checks, "resume", checks.folder / "absent" / "j"), DISK_FAULT, DISK_FAILED)
+    for absent in (checks.folder / "absent", checks.folder / "absent" / "j"):
+        expect_end(Keeper(checks, "resume", absent), DISK_FAULT, DISK_FAILED)
+        if absent.exists():
+            raise Failed("`resume` made a file")
 
 
 def is_read_only(checks):

@@ -36,7 +36,7 @@ use step_count::{Ledger, Steps};
 /// | `LinkFault` | the address could not be listened on, or a turn could not be had of the links | yes |
 /// | `Journal` | the file is no journal | yes |
 /// | `Config` | the configuration of the journal is not valid, or a pattern of it is refused | yes |
-/// | `DiskFault` | a call of the disk failed | yes |
+/// | `DiskFault` | a call of the disk failed, such as opening where there is no file | yes |
 /// | `Memory` | out of memory; `out` may have got notice lines | yes |
 pub fn resume<L: Links, D: Disk, O: Sink, E: Sink, P: Patterns, G: Ledger>(
     alloc: Global,
