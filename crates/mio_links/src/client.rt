@@ -8,8 +8,8 @@ use mio::event::Event;
 use ports::{PIECE_LIMIT, SendAnswer, Want, What};
 use std::io::{ErrorKind, Read, Write};
 
-/// One client's connection over a stream, and what the system has reported of it. Readiness is reported once, when it changes, so it
-/// is kept until a call finds that it has ended.
+/// One client's connection over a stream, and what the system has reported of it. Readiness is reported once, when it
+/// changes, so it is kept until a call finds that it has ended.
 #[derive(Drop)]
 pub(crate) struct Client<S: Read + Write> {
     stream: S,

@@ -24,7 +24,7 @@ const LONGEST_WAIT: u64 = 100;
 
 /// A connection to a server, from the first try on.
 #[derive(Drop)]
-pub struct Dial {
+pub(crate) struct Dial {
     poll: Poll,
     // The addresses of the server that were not tried yet.
     addresses: VecDeque<SocketAddr>,

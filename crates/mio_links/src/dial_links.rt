@@ -2,6 +2,7 @@ ghost use Rattle.std.specs.Prelude.{◌≡◌, ◌≢◌, ◌<◌, ◌≤◌, []
 ghost use Rattle.ports.specs.Calls.{AddsCalls};
 ghost use Rattle.ports.specs.Links.{HasListenCause, HasNextCause, IsPieceWithin, IsWithin, listen_entries, next_entries, send_entries};
 ghost use Rattle.ports.specs.declared.entry.Entry.TheVariants.{Close};
+ghost use Rattle.mio_links.specs.Reports.{report_of};
 ghost use Rattle.mio_links.specs.Turns.{IsGiven, OfLink};
 
 use crate::dial::Dial;
@@ -20,26 +21,26 @@ use std::time::Clock;
 // How many events the system reports at once, at most.
 const EVENTS_AT_ONCE: usize = 16;
 
-/// The link of a client to a server over TCP, and the system's clock. `listen` begins to
-/// connect to the address. Once it is connected, a turn is that link 0 opened. No turn is [`What::Stopped`]. If no
-/// address of a host can be connected to, a call of `listen` or `next` fails.
+/// The link of a client to a server over TCP, and the system's clock. `listen` begins to connect to the address. Once it
+/// is connected, a turn is that link 0 opened. No turn is [`What::Stopped`]. If no address of a host can be connected to,
+/// a call of `listen` or `next` fails.
 #[derive(Drop)]
 pub struct DialLinks<'a, R: Net + Clock> {
     rt: &'a R,
     events: Events,
-    /// The connection of the last call of [`Links::listen`] that succeeded.
-    pub dial: Option<Dial>,
+    // The connection of the last call of `listen` that succeeded.
+    dial: Option<Dial>,
     /// The number of calls of [`Links::listen`] and [`Links::next`] that failed.
     pub faults: u64,
-    /// The calls so far, which only proofs see.
-    pub calls: CallLog,
+    // The calls so far, which only proofs see.
+    calls: CallLog,
 }
 
 impl<'a, R: Net + Clock> DialLinks<'a, R> {
     /// A link that is not connected yet.
     pub fn fresh(rt: &'a R, alloc: Global) -> Result<DialLinks<'a, R>, Memory>
-        ensures faults { IfOk result (λ links. links.faults ≡ 0) }
-        ensures calls { IfOk result (λ links. links.calls ≡ []) }
+        ensures { IfOk result (λ links.
+            ⟦<DialLinks<'a, R> as Links>⟧.report links ≡ report_of [] 0) }
     {
         Ok(DialLinks {
             rt,
@@ -110,8 +111,6 @@ impl<'a, R: Net + Clock> DialLinks<'a, R> {
 }
 
 impl<'a, R: Net + Clock> Links for DialLinks<'a, R> {
-    ghost use Rattle.mio_links.specs.Reports.{report_of};
-
     ghost report = { λ links. report_of links.calls links.faults };
 
     #[tactic(auto, using(crate::proofs::ReportLemmas::told))]

@@ -12,7 +12,6 @@ mod readings;
 mod sockets;
 
 pub use accept::{Refusal, refusal_of};
-pub use dial::Dial;
 pub use dial_links::DialLinks;
 pub use links::MioLinks;
 pub use readings::Readings;

@@ -3,6 +3,7 @@ ghost use Rattle.ev_types.specs.Clock.{seconds_per_turn_limit};
 ghost use Rattle.ports.specs.Calls.{AddsCalls};
 ghost use Rattle.ports.specs.Links.{HasListenCause, HasNextCause, IsPieceWithin, IsWithin, listen_entries, next_entries, send_entries};
 ghost use Rattle.ports.specs.declared.entry.Entry.TheVariants.{Close};
+ghost use Rattle.mio_links.specs.Reports.{report_of};
 ghost use Rattle.mio_links.specs.Turns.{CountsOpened, IsGiven, OfLink, OpensAt};
 ghost use Rattle.mio_links.specs.Sockets.{IsOpenOn};
 
@@ -25,8 +26,8 @@ const EVENTS_AT_ONCE: usize = 256;
 // How many milliseconds a turn waits at most.
 const LONGEST_WAIT: u64 = 100;
 
-/// The links to clients over TCP, and the system's clock. Links are numbered from 0 in
-/// the order in which they open, and no turn is [`What::Stopped`].
+/// The links to clients over TCP, and the system's clock. Links are numbered from 0 in the order in which they open, and
+/// no turn is [`What::Stopped`].
 #[derive(Drop)]
 pub struct MioLinks<'a, R: Net + Clock> {
     rt: &'a R,
@@ -38,16 +39,16 @@ pub struct MioLinks<'a, R: Net + Clock> {
     pub opened: u64,
     /// The number of calls of [`Links::listen`] and [`Links::next`] that failed.
     pub faults: u64,
-    /// The calls so far, which only proofs see.
-    pub calls: CallLog,
+    // The calls so far, which only proofs see.
+    calls: CallLog,
 }
 
 impl<'a, R: Net + Clock> MioLinks<'a, R> {
     /// Links of which none is open, and that do not listen yet.
     pub fn fresh(rt: &'a R, alloc: Global) -> Result<MioLinks<'a, R>, Memory>
         ensures opened { IfOk result (λ links. links.opened ≡ 0) }
-        ensures faults { IfOk result (λ links. links.faults ≡ 0) }
-        ensures calls { IfOk result (λ links. links.calls ≡ []) }
+        ensures report { IfOk result (λ links.
+            ⟦<MioLinks<'a, R> as Links>⟧.report links ≡ report_of [] 0) }
     {
         Ok(MioLinks {
             rt,
@@ -132,8 +133,6 @@ impl<'a, R: Net + Clock> MioLinks<'a, R> {
 }
 
 impl<'a, R: Net + Clock> Links for MioLinks<'a, R> {
-    ghost use Rattle.mio_links.specs.Reports.{report_of};
-
     ghost report = { λ links. report_of links.calls links.faults };
 
     #[tactic(auto, using(crate::proofs::ReportLemmas::told))]
