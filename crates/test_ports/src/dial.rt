@@ -1,7 +1,7 @@
-use crate::sockets::{all_of, is_ready, is_sent, listen, listen_on, next_turn};
+use crate::sockets::{all_of, is_sent, listen, listen_on, next_turn};
 use ev_types::Memory;
 use mio_links::{DialLinks, MioLinks};
-use ports::{Links, ListenAnswer, SendAnswer, Wants, What};
+use ports::{Links, ListenAnswer, PIECE_LIMIT, SendAnswer, Wants, What};
 use std::alloc::Global;
 use std::net::Net;
 use std::test::Fail;
@@ -36,7 +36,7 @@ fn are_open<L: Links, M: Links>(
         && next_turn(alloc, server, wants, buf) == What::Opened { link: 0 }
 }
 
-/// Whether the client's link ends as the server closes it.
+/// Whether the server's link ends as the client closes it.
 fn is_closed<R: Net + Clock>(
     alloc: Global,
     client: &mut DialLinks<'_, R>,
@@ -44,46 +44,73 @@ fn is_closed<R: Net + Clock>(
     wants: &Wants,
     buf: &mut [u8],
 ) -> bool {
-    server.close(0);
-    next_turn(alloc, client, wants, buf) == What::Ended { link: 0 }
+    client.close(0);
+    next_turn(alloc, server, wants, buf) == What::Ended { link: 0 }
 }
 
-/// Whether both ends open, bytes go both ways, and the client's link ends as the server closes it.
+/// Whether the next turn is not before this second.
+fn is_not_before<L: Links>(
+    alloc: Global,
+    links: &mut L,
+    wants: &Wants,
+    buf: &mut [u8],
+    secs: u64,
+) -> bool {
+    buf.len() == PIECE_LIMIT && links.next(alloc, wants, buf).secs >= secs
+}
+
+/// Whether both ends open, bytes go both ways, the server's link ends as the client closes it, and the client's clock
+/// goes on from this second.
 fn are_linked<R: Net + Clock>(
     alloc: Global,
     client: &mut DialLinks<'_, R>,
     server: &mut MioLinks<'_, R>,
     wants: &Wants,
     buf: &mut [u8],
+    secs: u64,
 ) -> bool {
     are_open(alloc, client, server, wants, buf)
         && is_passed(alloc, client, server, wants, buf)
         && is_passed(alloc, server, client, wants, buf)
         && is_closed(alloc, client, server, wants, buf)
+        && is_not_before(alloc, client, wants, buf, secs)
 }
 
-/// Whether the client, which is connected to the server, is served until the server closes its link.
+/// Whether the client, which began to connect to the server in this second, is served.
 fn is_served<R: Net + Clock>(
     alloc: Global,
     client: &mut DialLinks<'_, R>,
     server: &mut MioLinks<'_, R>,
+    secs: u64,
 ) -> Result<bool, Memory> {
     let wants = one(alloc)?;
     let mut buf = vec![in alloc; 0; 65_536]?;
-    Ok(are_linked(alloc, client, server, &wants, buf.as_mut_slice()))
+    Ok(are_linked(alloc, client, server, &wants, buf.as_mut_slice(), secs))
 }
 
-/// Whether the client is ready for the address that the server listens on, and is served there.
+/// Whether the client is served at the address.
+fn is_served_at<R: Net + Clock>(
+    alloc: Global,
+    client: &mut DialLinks<'_, R>,
+    server: &mut MioLinks<'_, R>,
+    address: &str,
+) -> bool {
+    match listen_on(alloc, client, address) {
+        ListenAnswer::Ready { secs } => {
+            secs > 0 && matches!(is_served(alloc, client, server, secs), Ok(true))
+        }
+        _ => false,
+    }
+}
+
+/// Whether the client is served at the address that the server listens on.
 fn is_dialed<R: Net + Clock>(
     alloc: Global,
     client: &mut DialLinks<'_, R>,
     server: &mut MioLinks<'_, R>,
 ) -> bool {
     match listen(alloc, server) {
-        Some(address) => {
-            is_ready(alloc, client, address.as_str())
-                && matches!(is_served(alloc, client, server), Ok(true))
-        }
+        Some(address) => is_served_at(alloc, client, server, address.as_str()),
         None => false,
     }
 }
