@@ -1,5 +1,5 @@
 #!/bin/sh
-# install.sh PREFIX           installs the built program with its page, its completion, its unit and a configuration
+# install.sh PREFIX           installs the built program with its page, its completion, its units and a configuration
 # install.sh --remove PREFIX  removes what it installed
 #
 # The program is taken from PROGRAM, if that is set, and else from crates/riemann_server/out. With DESTDIR set all files are
@@ -24,11 +24,18 @@ put() { # MODE FROM TO
     echo "installed $3"
 }
 
-put_unit() {
+put_unit() { # NAME
     unit=$(mktemp)
-    sed -e "s|@BIN@|$prefix/bin|" -e "s|@ETC@|$etc|" "$here/riemann.service" >"$unit"
-    put 644 "$unit" "$units/riemann.service"
+    sed -e "s|@BIN@|$prefix/bin|" -e "s|@ETC@|$etc|" "$here/$1" >"$unit"
+    put 644 "$unit" "$units/$1"
     rm "$unit"
+    put 644 "$here/service.conf" "$units/$1.d/riemann.conf"
+}
+
+drop_unit() { # NAME
+    drop "$units/$1"
+    drop "$units/$1.d/riemann.conf"
+    rmdir "$units/$1.d" 2>/dev/null || true
 }
 
 drop() {
@@ -54,15 +61,19 @@ config=$root$etc/riemann/riemann.config
 if [ "$remove" = no ]; then
     [ -x "$program" ] || { echo "install.sh: no program at $program: build it first" >&2; exit 1; }
     put 755 "$program" "$bin/riemann"
+    put 755 "$here/riemann-journal" "$bin/riemann-journal"
     put 644 "$here/riemann.1" "$pages/riemann.1"
     put 644 "$here/riemann.bash" "$completions/riemann"
-    put_unit
+    put_unit riemann.service
+    put_unit riemann-journal.service
     if [ -e "$config" ]; then echo "kept $config"; else put 644 "$here/riemann.config" "$config"; fi
 else
     drop "$bin/riemann"
+    drop "$bin/riemann-journal"
     drop "$pages/riemann.1"
     drop "$completions/riemann"
-    drop "$units/riemann.service"
+    drop_unit riemann.service
+    drop_unit riemann-journal.service
     if [ ! -e "$config" ]; then
         :
     elif cmp -s "$config" "$here/riemann.config"; then
