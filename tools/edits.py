@@ -125,6 +125,23 @@ def write_rows(rows, needs):
     os.replace(f"{PAGE}.new", PAGE)
 
 
+def link_or_copy(file, to):
+    try:
+        os.link(file, to)
+    except OSError:
+        shutil.copy2(file, to)
+
+
+def make_copy(copy, needs):
+    """Makes a copy of the repository without the edits of the gate, and gives it the libraries that are built here."""
+    copy_to(copy, needs)
+    for crate in needs:
+        shutil.rmtree(f"{copy}/crates/{crate}/must-fail", ignore_errors=True)
+        built = f"{ROOT}/crates/{crate}/out/rlib"
+        if os.path.isdir(built):
+            shutil.copytree(built, f"{copy}/crates/{crate}/out/rlib", copy_function=link_or_copy)
+
+
 def try_crate(crate, copy, seconds):
     """Returns what each edit of the crate came to, by its name, and all that was said."""
     folder = f"{copy}/crates/{crate}"
@@ -160,7 +177,7 @@ def stop(*_):
 def count_of(results):
     """Returns how many edits came to what, as text."""
     counts = collections.Counter(results)
-    return ", ".join(f"{counts[it]} {it}" for it in dict.fromkeys([*SAID.values()][::-1]) if counts[it]) or "none"
+    return ", ".join(f"{counts[it]} {it}" for it in [REFUSED, *SAID.values()][:-1] if counts[it]) or "none"
 
 
 def is_well(result):
@@ -193,10 +210,10 @@ class Trial:
         if not all(map(is_well, results.values())):
             print(said, flush=True)
         self.results += results.values()
-        bad = "".join(f"; {result}: `{edit}`" for edit, result in results.items() if result != REFUSED)
+        others = ", ".join(f"`{edit}`" for edit, result in results.items() if result != REFUSED)
+        result = count_of(results.values()) + (f": {others}" if others else "")
         day = datetime.date.today().isoformat()
-        cells = [f"`{crate}`", str(len(results)), day, count_of(results.values()) + bad, self.texts[crate]]
-        self.rows[crate] = cells
+        self.rows[crate] = [f"`{crate}`", str(len(results)), day, result, self.texts[crate]]
         write_rows(self.rows, self.needs)
 
 
@@ -206,14 +223,12 @@ def try_all(crates, needs, choice):
     rows, texts = read_rows(), {it: text_of(it, needs, kit) for it in crates}
     done = [it for it in crates if not choice.again and it in rows and rows[it][4] == texts[it] and is_done(rows[it])]
     for crate in done:
-        print(f"{crate}: its {rows[crate][1]} edits were refused on {rows[crate][2]}, and nothing changed since")
+        print(f"{crate}: {rows[crate][1]} refused on {rows[crate][2]}, and nothing changed since")
     trial = Trial([it for it in crates if it not in done], needs, rows, texts, choice.minutes * 60)
     with tempfile.TemporaryDirectory(prefix="riemann-edits-", ignore_cleanup_errors=True) as room:
         threads = []
         for number in range(choice.jobs):
-            copy_to(f"{room}/{number}", needs)
-            for folder in glob.glob(f"{room}/{number}/crates/*/must-fail"):
-                shutil.rmtree(folder)
+            make_copy(f"{room}/{number}", needs)
             threads.append(threading.Thread(target=trial.work, args=(f"{room}/{number}",), daemon=True))
             threads[-1].start()
         for thread in threads:
