@@ -1,7 +1,7 @@
 -- The command that is carried out is the one of the arguments.
 use Rattle.std.proofs.Common.{◌≡◌, ℕ, ◌+◌, ◌*◌, List, [], ◌∷◌, Option, Some, ap, refl, sym, ◌∙◌, subst, arith, inl, inr}
 use Rattle.std.specs.Prelude.{codes}
-use Rattle.command_check.specs.Checks.{Checks}
+use Rattle.command_texts.specs.Checks.{Checks}
 use Rattle.command_client.specs.Asks.{Asks}
 use Rattle.command_client.specs.Sends.{Sends}
 use Rattle.command_io.specs.Endings.{GotLineOf}
@@ -10,7 +10,7 @@ use Rattle.command_io.specs.Reports.{Reports}
 use Rattle.command_io.specs.declared.status.Status.{Status}
 use Rattle.command_io.specs.declared.status.Status.TheVariants.{Usage}
 use Rattle.command_feed.specs.Feeds.{Feeds}
-use Rattle.command_graphite.specs.Converts.{Converts}
+use Rattle.command_texts.specs.Converts.{Converts}
 use Rattle.command_load.specs.Loads.{Loads}
 use Rattle.command_record.specs.Records.{Records}
 use Rattle.command_record.specs.Resumes.{Resumes}

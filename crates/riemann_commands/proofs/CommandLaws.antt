@@ -11,7 +11,7 @@ use Rattle.command_io.specs.declared.status.Status.TheVariants.{Verdict, Unanswe
 use Rattle.command_io.specs.Reports.{Reports}
 use Rattle.command_client.specs.Asks.{Asks}
 use Rattle.command_client.specs.Sends.{Sends}
-use Rattle.command_graphite.specs.Converts.{ConvertEnds, Converts}
+use Rattle.command_texts.specs.Converts.{ConvertEnds, Converts}
 use Rattle.command_io.specs.Endings.{HasNoLine, IsRefusal, IsRefusalOrMemory, status_of}
 use Rattle.riemann_commands.specs.declared.command.Command.{Command}
 use Rattle.riemann_commands.specs.declared.command.Command.TheVariants.{Feed, Check, Replay, Serve, Load, Graphite}

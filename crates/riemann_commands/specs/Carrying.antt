@@ -1,7 +1,7 @@
 -- What a command that is carried out promises, whichever it is.
 use Rattle.std.specs.Prelude.{◌≡◌, ◌≢◌, ◌⊎◌, ◌≤◌, length}
 use Rattle.std.specs.Option.{ForSome}
-use Rattle.command_check.specs.Checks.{Checks}
+use Rattle.command_texts.specs.Checks.{Checks}
 use Rattle.command_client.specs.Asks.{Asks}
 use Rattle.command_client.specs.Sends.{Sends}
 use Rattle.command_io.specs.Endings.{HasNoLine, IsRefusal}
@@ -10,7 +10,7 @@ use Rattle.command_io.specs.declared.status.Status.{Status}
 use Rattle.command_io.specs.declared.status.Status.TheVariants.{Done, Usage, ReadFault, SinkFault, LinkFault, Memory}
 use Rattle.command_io.specs.declared.status.Status.TheVariants.{DiskFault}
 use Rattle.command_feed.specs.Feeds.{Feeds}
-use Rattle.command_graphite.specs.Converts.{Converts}
+use Rattle.command_texts.specs.Converts.{Converts}
 use Rattle.command_load.specs.Loads.{Loads}
 use Rattle.command_load.specs.declared.play.TheConstants.{EVENT_LIMIT}
 use Rattle.disk_port.specs.Calls.{DiskReport}

@@ -1,6 +1,6 @@
 -- What the call of a command promises, as one fact of the words and of all that it was handed.
 use Rattle.std.specs.Prelude.{◌≡◌, ◌≢◌, ◌↔◌, ◌⊎◌, ℕ, List, [], ◌∷◌, codes}
-use Rattle.command_check.specs.Checks.{Checks}
+use Rattle.command_texts.specs.Checks.{Checks}
 use Rattle.command_client.specs.Asks.{Asks}
 use Rattle.command_client.specs.Sends.{Sends}
 use Rattle.command_io.specs.Endings.{GotLineOf, HasNoLine, IsRefusal}
@@ -10,7 +10,7 @@ use Rattle.command_io.specs.declared.status.Status.{Status}
 use Rattle.command_io.specs.declared.status.Status.TheVariants.{Done, Usage, ReadFault, SinkFault, LinkFault, Memory}
 use Rattle.command_io.specs.declared.status.Status.TheVariants.{DiskFault}
 use Rattle.command_feed.specs.Feeds.{Feeds}
-use Rattle.command_graphite.specs.Converts.{Converts}
+use Rattle.command_texts.specs.Converts.{Converts}
 use Rattle.command_load.specs.Loads.{Loads}
 use Rattle.disk_port.specs.Calls.{DiskReport}
 use Rattle.ports.specs.Counts.{Rose}

@@ -4,16 +4,15 @@ ghost use Rattle.riemann_commands.specs.Carrying.{CarriesOut, IsWithinLimits};
 ghost use Rattle.riemann_commands.specs.Promises.{Promises, sameness};
 
 use crate::command::{Command, command_of};
-use command_check::check;
 use command_client::{query, send};
 use command_feed::feed;
-use command_graphite::graphite;
 use command_io::{Status, USAGE, put_line};
 use command_load::load;
 use command_record::{record, resume};
 use command_replay::replay;
 use command_serve::serve;
 use command_test::run_tests;
+use command_texts::{check, graphite};
 use disk_port::Disk;
 use ev_types::Text;
 use ports::{Links, Sink, Store};

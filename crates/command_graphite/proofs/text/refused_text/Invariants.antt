@@ -1,6 +1,0 @@
-use Rattle.std.proofs.Common.{◌≡◌, take}
-use Rattle.command_graphite.specs.Converts.{refused_text}
-use Rattle.command_graphite.proofs.text.refused_text.Given as goal
-
-abbrev pub invariant-loop-line : goal.invariant-loop-line
-invariant-loop-line l = l.text ≡ refused_text (take l.line-index l.bad)

@@ -1,0 +1,212 @@
+-- How a call of the command ends.
+use Rattle.std.proofs.Common.{◌≡◌, ◌≢◌, ℕ, ◌+◌, ◌<◌, ◌≤◌, ◌⊎◌, List, [], ◌∷◌, ◌++◌, length, take, get_or, Option, Some}
+use Rattle.std.proofs.Common.{None, Result, Ok, Err, refl, sym, ◌∙◌, ap, subst, arith, inl, inr, append-nil}
+use Rattle.std.proofs.lemmas.Grind.{flat_map-append}
+use Rattle.std.specs.Borrow.{Bor}
+use Rattle.std.proofs.lemmas.List.{take_more}
+use Rattle.command_io.proofs.EndingLaws.{not_over, reported_of}
+use Rattle.command_io.specs.Endings.{GotLineOf, IsRefusalOrMemory, Says, status_of}
+use Rattle.command_io.specs.Fetches.{ending_of_file}
+use Rattle.command_io.specs.Files.{IsFileFault, ReadMore, good_read, reads_of}
+use Rattle.command_io.specs.Reports.{Reports}
+use Rattle.command_io.specs.declared.limits.TheConstants.{FILE_LIMIT}
+use Rattle.command_io.specs.declared.read.FileFault.{FileFault}
+use Rattle.command_io.specs.declared.read.FileFault.TheVariants as file
+use Rattle.command_io.specs.declared.status.Status.{Status}
+use Rattle.command_io.specs.declared.status.Status.TheVariants.{Done, Usage, Config, ReadFault, SinkFault, LinkFault}
+use Rattle.command_io.specs.declared.status.Status.TheVariants.{Memory, Script, Truncated, TooLong, Lines, Tests}
+use Rattle.command_io.specs.declared.status.Status.TheVariants.{Verdict, Unanswered, BadReply, Journal, DiskFault}
+use Rattle.graphite_lines.specs.Frames.{AreReadBack, FramesAreReadBack, accepted, frames_in, refused_lines}
+use Rattle.graphite_lines.specs.Lines.{lines_of}
+use Rattle.graphite_lines.specs.declared.bad.BadLine.{BadLine}
+use Rattle.ports.specs.Counts.{IsStill, Rose}
+use Rattle.ports.specs.Reading.{IsHeld}
+use Rattle.ports.specs.Writing.{SinkReport}
+use Rattle.ports.specs.declared.store.StoreRead.{StoreRead}
+use Rattle.command_texts.specs.Converts.{ConvertCompletes, ConvertEnds, ConvertsText, HasConverted, IsConverted}
+use Rattle.command_texts.specs.Converts.{IsText, ReadsOnce, WritesFrames, refused_line, refused_text}
+use Rattle.command_texts.specs.Writing.{Writes, WritesAll, WritesSome}
+
+-- ---- the lines of refused lines
+
+pub no_text : (bad : List BadLine) → refused_text bad ≡ [] → bad ≡ []
+no_text [] h = refl
+no_text (line ∷ bad) h = cc
+
+pub some_text : (bad : List BadLine) → (refused_text bad ≡ [] → ⊥) → bad ≡ [] → ⊥
+some_text [] h e = h refl
+some_text (line ∷ bad) h e = cc
+
+pub next_line : (bad : List BadLine) (i : ℕ) (line : BadLine) → i < length bad → line ≡ get_or bad i line
+    → refused_text (take (i + 1) bad) ≡ refused_text (take i bad) ++ refused_line line
+next_line bad i line inside is =
+    let front : take (i + 1) bad ≡ take i bad ++ line ∷ [] =
+    take_more bad i line inside ∙ ap (λ x. take i bad ++ x ∷ []) (sym is) in
+    ap refused_text front ∙ flat_map-append refused_line (take i bad) (line ∷ [])
+    ∙ ap (λ more. refused_text (take i bad) ++ more) (append-nil (refused_line line))
+
+-- ---- once the text is read
+
+pub text_ends : FramesAreReadBack
+    → (host_part : Option ℕ) (text frames lines : List ℕ) (out out' err err' : SinkReport) (status : Status)
+    → frames ≡ frames_in host_part text → lines ≡ refused_text (refused_lines host_part text)
+    → Writes frames lines out out' err err' status → ConvertsText host_part text out out' err err' status
+text_ends law host_part text frames lines out out' err err' Done f l w = (
+  no_text (refused_lines host_part text) (sym l ∙ w.0),
+  record { all = rw f at w.1; read_back = law host_part text },
+  w.2,
+)
+text_ends law host_part text frames lines out out' err err' Lines f l w = (
+  some_text (refused_lines host_part text) (λ e. w.0 (l ∙ e)),
+  record { all = rw f at w.1; read_back = law host_part text },
+  rw l at w.2,
+)
+text_ends law host_part text frames lines out out' err err' SinkFault f l (inl cut) = inl (rw f at cut.0, cut.1)
+text_ends law host_part text frames lines out out' err err' SinkFault f l (inr w) =
+    inr (
+      some_text (refused_lines host_part text) (λ e. w.0 (l ∙ e)),
+      record { all = rw f at w.1; read_back = law host_part text },
+      rw l at w.2,
+    )
+text_ends law host_part text frames lines out out' err err' Usage f l w = w
+text_ends law host_part text frames lines out out' err err' Config f l w = w
+text_ends law host_part text frames lines out out' err err' ReadFault f l w = w
+text_ends law host_part text frames lines out out' err err' LinkFault f l w = w
+text_ends law host_part text frames lines out out' err err' Memory f l w = absurd w
+text_ends law host_part text frames lines out out' err err' Script f l w = w
+text_ends law host_part text frames lines out out' err err' Truncated f l w = w
+text_ends law host_part text frames lines out out' err err' TooLong f l w = w
+text_ends law host_part text frames lines out out' err err' Tests f l w = w
+text_ends law host_part text frames lines out out' err err' Verdict f l w = w
+text_ends law host_part text frames lines out out' err err' Unanswered f l w = w
+text_ends law host_part text frames lines out out' err err' BadReply f l w = w
+text_ends law host_part text frames lines out out' err err' Journal f l w = w
+text_ends law host_part text frames lines out out' err err' DiskFault f l w = w
+
+-- ---- the command
+
+pub converted_ends : (name : List ℕ) (host_part : Option ℕ) (old new : Reports) (text : List ℕ) (status : Status)
+    → IsText (old.store.held name) text
+    → ConvertsText host_part text old.out new.out old.err new.err status → ConvertEnds name host_part old new status
+converted_ends name host_part old new text Done is ends = (text, is, ends)
+converted_ends name host_part old new text Lines is ends = (text, is, ends)
+converted_ends name host_part old new text SinkFault is ends = (text, is, ends)
+converted_ends name host_part old new text Memory is ends = ends
+converted_ends name host_part old new text Usage is ends = absurd ends
+converted_ends name host_part old new text Config is ends = absurd ends
+converted_ends name host_part old new text ReadFault is ends = absurd ends
+converted_ends name host_part old new text LinkFault is ends = absurd ends
+converted_ends name host_part old new text Script is ends = absurd ends
+converted_ends name host_part old new text Truncated is ends = absurd ends
+converted_ends name host_part old new text TooLong is ends = absurd ends
+converted_ends name host_part old new text Tests is ends = absurd ends
+converted_ends name host_part old new text Verdict is ends = absurd ends
+converted_ends name host_part old new text Unanswered is ends = absurd ends
+converted_ends name host_part old new text BadReply is ends = absurd ends
+converted_ends name host_part old new text Journal is ends = absurd ends
+converted_ends name host_part old new text DiskFault is ends = absurd ends
+
+pub converted_reads : (name : List ℕ) (host_part : Option ℕ) (text : List ℕ) (out out' err err' : SinkReport)
+    (reads reads' : Option (List StoreRead)) (status : Status)
+    → ConvertsText host_part text out out' err err' status → ReadMore (good_read name ∷ []) reads reads'
+    → ReadsOnce name reads reads' status
+converted_reads name host_part text out out' err err' reads reads' Done ends grew = grew
+converted_reads name host_part text out out' err err' reads reads' Lines ends grew = grew
+converted_reads name host_part text out out' err err' reads reads' SinkFault ends grew = grew
+converted_reads name host_part text out out' err err' reads reads' Memory ends grew = inr grew
+converted_reads name host_part text out out' err err' reads reads' Usage ends grew = grew
+converted_reads name host_part text out out' err err' reads reads' Config ends grew = grew
+converted_reads name host_part text out out' err err' reads reads' ReadFault ends grew = absurd ends
+converted_reads name host_part text out out' err err' reads reads' LinkFault ends grew = grew
+converted_reads name host_part text out out' err err' reads reads' Script ends grew = grew
+converted_reads name host_part text out out' err err' reads reads' Truncated ends grew = grew
+converted_reads name host_part text out out' err err' reads reads' TooLong ends grew = grew
+converted_reads name host_part text out out' err err' reads reads' Tests ends grew = grew
+converted_reads name host_part text out out' err err' reads reads' Verdict ends grew = grew
+converted_reads name host_part text out out' err err' reads reads' Unanswered ends grew = grew
+converted_reads name host_part text out out' err err' reads reads' BadReply ends grew = grew
+converted_reads name host_part text out out' err err' reads reads' Journal ends grew = grew
+converted_reads name host_part text out out' err err' reads reads' DiskFault ends grew = grew
+
+-- the file was not read
+pub fault_ends : (name : List ℕ) (shown : Bor (List ℕ)) (host_part : Option ℕ) (old new : Reports) (fault : FileFault)
+    → shown.now ≡ name
+    → IsFileFault (old.store.held name) FILE_LIMIT old.store.faults new.store.faults old.store.taken new.store.taken
+    fault
+    → new.out ≡ old.out
+    → Says (ending_of_file shown FILE_LIMIT fault) old.err new.err
+    → ConvertEnds name host_part old new (status_of (ending_of_file shown FILE_LIMIT fault))
+fault_ends name shown host_part old new file.Unread is cause same says = (cause, same, rw is at says)
+fault_ends name shown host_part old new file.TooLong is cause same says = (cause.0, cause.1, same, rw is at says)
+fault_ends name shown host_part old new file.Memory is cause same says = (same, says)
+
+pub fault_reads : (name : List ℕ) (shown : Bor (List ℕ)) (reads reads' : Option (List StoreRead)) (fault : FileFault)
+    → ReadMore (reads_of name (Err fault)) reads reads'
+    → ReadsOnce name reads reads' (status_of (ending_of_file shown FILE_LIMIT fault))
+fault_reads name shown reads reads' file.Unread grew = grew
+fault_reads name shown reads reads' file.TooLong grew = grew
+fault_reads name shown reads reads' file.Memory grew = inl grew
+
+pub fault_not_converted : (shown : Bor (List ℕ)) (fault : FileFault)
+    → IsConverted (status_of (ending_of_file shown FILE_LIMIT fault)) → ⊥
+fault_not_converted shown file.Unread done = done
+fault_not_converted shown file.TooLong done = done
+fault_not_converted shown file.Memory done = done
+
+-- ---- completeness
+
+sink_rose : (host_part : Option ℕ) (text : List ℕ) (out out' err err' : SinkReport)
+    → ConvertsText host_part text out out' err err' SinkFault
+    → IsStill out.faults out'.faults → IsStill err.faults err'.faults → ⊥
+sink_rose host_part text out out' err err' (inl cut) out_still err_still =
+    let rose : Rose out.faults out'.faults = cut.0.fault in omega (arith, rose, out_still.0, out_still.1)
+sink_rose host_part text out out' err err' (inr cut) out_still err_still =
+    let rose : Rose err.faults err'.faults = cut.2.fault in omega (arith, rose, err_still.0, err_still.1)
+
+pub sink_fault : (host_part : Option ℕ) (text : List ℕ) (out out' err err' : SinkReport)
+    → ConvertsText host_part text out out' err err' SinkFault
+    → Rose out.faults out'.faults ⊎ Rose err.faults err'.faults
+sink_fault host_part text out out' err err' (inl cut) = inl cut.0.fault
+sink_fault host_part text out out' err err' (inr cut) = inr cut.2.fault
+
+pub no_link_fault : (host_part : Option ℕ) (text : List ℕ) (out out' err err' : SinkReport) (status : Status)
+    → ConvertsText host_part text out out' err err' status → status ≡ LinkFault → ⊥
+no_link_fault host_part text out out' err err' status ends e =
+    let P : Status → Type 0 = λ s. ConvertsText host_part text out out' err err' s in
+    let none : ⊥ = subst P e ends in
+    none
+
+pub no_read_fault : (host_part : Option ℕ) (text : List ℕ) (out out' err err' : SinkReport) (status : Status)
+    → ConvertsText host_part text out out' err err' status → status ≡ ReadFault → ⊥
+no_read_fault host_part text out out' err err' status ends e =
+    let P : Status → Type 0 = λ s. ConvertsText host_part text out out' err err' s in
+    let none : ⊥ = subst P e ends in
+    none
+
+pub convert_complete : (name : List ℕ) (host_part : Option ℕ) (old new : Reports) (status : Status)
+    → ConvertEnds name host_part old new status
+    → ConvertCompletes name host_part old new status
+convert_complete name host_part old new Done ends text holds fits read_still put_still err_still =
+    let is = reported_of (old.store.held name) text _ holds ends.1 in
+    (let P : List ℕ → Type 0 = λ t. refused_lines host_part t ≡ [] in subst P (sym is.0) ends.2.0)
+convert_complete name host_part old new Lines ends text holds fits read_still put_still err_still =
+    let is = reported_of (old.store.held name) text _ holds ends.1 in
+    (let P : List ℕ → Type 0 = λ t. refused_lines host_part t ≡ [] → ⊥ in subst P (sym is.0) ends.2.0)
+convert_complete name host_part old new SinkFault ends text holds fits read_still put_still err_still =
+    absurd (sink_rose host_part ends.0 old.out new.out old.err new.err ends.2 put_still err_still)
+convert_complete name host_part old new Memory ends text holds fits read_still put_still err_still = tt
+convert_complete name host_part old new ReadFault ends text holds fits read_still put_still err_still =
+    let rose : Rose old.store.faults new.store.faults = ends.0 in omega (arith, rose, read_still.0, read_still.1)
+convert_complete name host_part old new TooLong ends text holds fits read_still put_still err_still =
+    not_over (old.store.held name) text FILE_LIMIT holds fits ends.0
+convert_complete name host_part old new Usage ends text holds fits read_still put_still err_still = ends.2
+convert_complete name host_part old new Config ends text holds fits read_still put_still err_still = ends.2
+convert_complete name host_part old new LinkFault ends text holds fits read_still put_still err_still = ends.2
+convert_complete name host_part old new Script ends text holds fits read_still put_still err_still = ends.2
+convert_complete name host_part old new Truncated ends text holds fits read_still put_still err_still = ends.2
+convert_complete name host_part old new Tests ends text holds fits read_still put_still err_still = ends.2
+convert_complete name host_part old new Verdict ends text holds fits read_still put_still err_still = ends.2
+convert_complete name host_part old new Unanswered ends text holds fits read_still put_still err_still = ends.2
+convert_complete name host_part old new BadReply ends text holds fits read_still put_still err_still = ends.2
+convert_complete name host_part old new Journal ends text holds fits read_still put_still err_still = ends.2
+convert_complete name host_part old new DiskFault ends text holds fits read_still put_still err_still = ends.2

@@ -1,0 +1,4 @@
+pub mod Writing
+pub mod Converts
+pub mod Checks
+pub mod Building
