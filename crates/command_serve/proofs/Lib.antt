@@ -1,1 +1,3 @@
+pub mod PlayLaws
+pub mod LoadLaws
 pub mod ServeLaws

@@ -1,1 +1,4 @@
+pub mod Summaries
+pub mod Loads
+pub mod Limits
 pub mod Serves

@@ -1,6 +1,13 @@
 //! The command `serve CONFIG`: it runs a server over the links that it was handed.
 #![tactic(auto)]
 
-mod command;
+mod limits;
+mod load;
+mod play;
+mod serve;
+mod summary;
 
-pub use command::serve;
+pub use limits::limits_are_numbers;
+pub use load::load;
+pub use play::EVENT_LIMIT;
+pub use serve::serve;

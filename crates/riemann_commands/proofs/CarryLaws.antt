@@ -11,7 +11,7 @@ use Rattle.command_io.specs.declared.status.Status.{Status}
 use Rattle.command_io.specs.declared.status.Status.TheVariants.{Usage}
 use Rattle.command_feed.specs.Feeds.{Feeds}
 use Rattle.command_texts.specs.Converts.{Converts}
-use Rattle.command_load.specs.Loads.{Loads}
+use Rattle.command_serve.specs.Loads.{Loads}
 use Rattle.command_record.specs.Records.{Records}
 use Rattle.command_record.specs.Resumes.{Resumes}
 use Rattle.command_replay.specs.Replays.{Replays}

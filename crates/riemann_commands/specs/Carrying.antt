@@ -11,8 +11,8 @@ use Rattle.command_io.specs.declared.status.Status.TheVariants.{Done, Usage, Rea
 use Rattle.command_io.specs.declared.status.Status.TheVariants.{DiskFault}
 use Rattle.command_feed.specs.Feeds.{Feeds}
 use Rattle.command_texts.specs.Converts.{Converts}
-use Rattle.command_load.specs.Loads.{Loads}
-use Rattle.command_load.specs.declared.play.TheConstants.{EVENT_LIMIT}
+use Rattle.command_serve.specs.Loads.{Loads}
+use Rattle.command_serve.specs.declared.play.TheConstants.{EVENT_LIMIT}
 use Rattle.disk_port.specs.Calls.{DiskReport}
 use Rattle.ports.specs.Counts.{Rose}
 use Rattle.query_lang.specs.declared.read.TheConstants.{MAX_BYTES}

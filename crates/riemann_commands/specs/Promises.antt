@@ -11,7 +11,7 @@ use Rattle.command_io.specs.declared.status.Status.TheVariants.{Done, Usage, Rea
 use Rattle.command_io.specs.declared.status.Status.TheVariants.{DiskFault}
 use Rattle.command_feed.specs.Feeds.{Feeds}
 use Rattle.command_texts.specs.Converts.{Converts}
-use Rattle.command_load.specs.Loads.{Loads}
+use Rattle.command_serve.specs.Loads.{Loads}
 use Rattle.disk_port.specs.Calls.{DiskReport}
 use Rattle.ports.specs.Counts.{Rose}
 use Rattle.ports.specs.Writing.{Got, GotPrefix, SinkReport}

@@ -1,6 +1,6 @@
 -- The arguments of the command line.
 use Rattle.std.specs.Prelude.{◌≡◌, ℕ, ◌≤◌, ◌⊎◌, List, [], ◌∷◌, length, codes, Option, Some, None}
-use Rattle.command_load.specs.declared.play.TheConstants.{EVENT_LIMIT}
+use Rattle.command_serve.specs.declared.play.TheConstants.{EVENT_LIMIT}
 use Rattle.ports.specs.Counts.{greatest}
 use Rattle.query_lang.specs.declared.read.TheConstants.{MAX_BYTES}
 use Rattle.script_text.specs.Words.{number_of}

@@ -4,7 +4,7 @@ ghost use Rattle.riemann_commands.specs.Commands.{IsCommandOf};
 ghost use Rattle.riemann_commands.specs.Words.{IsUsage, load_words};
 
 use command_client::MAX_BYTES;
-use command_load::EVENT_LIMIT;
+use command_serve::EVENT_LIMIT;
 use ev_types::Text;
 use script_text::read_number;
 

@@ -1,6 +1,6 @@
 use Rattle.command_setup.specs.command_io.Reports.{reports}
 use Rattle.command_serve.proofs.ServeLaws.{run_has_config, served}
-use Rattle.command_serve.proofs.command.serve_links.Goals as goal
+use Rattle.command_serve.proofs.serve.serve_links.Goals as goal
 
 pub returns-in-Ok-clause-ends : goal.returns-in-Ok-clause-ends
 returns-in-Ok-clause-ends g c = λ err err'.

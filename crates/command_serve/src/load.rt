@@ -4,7 +4,7 @@ ghost use Rattle.command_setup.specs.command_io.Endings.{HasNoConfig, HasNoLine,
 ghost use Rattle.ports.specs.Calls.{LinksReport};
 ghost use Rattle.ports.specs.Writing.{SinkReport};
 ghost use Rattle.command_setup.specs.command_io.Reports.{reports};
-ghost use Rattle.command_load.specs.Loads.{LoadEnds, Loads, RunEnds, WritesSummary};
+ghost use Rattle.command_serve.specs.Loads.{LoadEnds, Loads, RunEnds, WritesSummary};
 ghost use Rattle.ev_types.specs.Interval.{IsInterval};
 
 use crate::play::{EVENT_LIMIT, play};

@@ -1,6 +1,6 @@
 use Rattle.std.proofs.lemmas.Result.{err_from_is_err_and}
-use Rattle.command_load.proofs.PlayLaws.{is_played, not_begun}
-use Rattle.command_load.proofs.play.play.Goals as goal
+use Rattle.command_serve.proofs.PlayLaws.{is_played, not_begun}
+use Rattle.command_serve.proofs.play.play.Goals as goal
 
 pub returns-in_err-links-clause-cut_off : goal.returns-in_err-links-clause-cut_off
 returns-in_err-links-clause-cut_off g c =

@@ -1,6 +1,6 @@
 use Rattle.std.proofs.Common.{inl, refl}
 use Rattle.command_setup.proofs.FaultLaws.{cut_has_config}
-use Rattle.command_load.proofs.command.run_load.Goals as goal
+use Rattle.command_serve.proofs.load.run_load.Goals as goal
 
 pub returns-in-Err-clause-ends : goal.returns-in-Err-clause-ends
 returns-in-Err-clause-ends g c =

@@ -1,8 +1,8 @@
 use Rattle.std.proofs.Common.{refl}
 use Rattle.std.specs.Prelude.{None}
 use Rattle.command_setup.specs.command_io.Reports.{reports}
-use Rattle.command_load.proofs.LoadLaws.{load_complete, load_not_linked, load_read_rose, load_sink_rose}
-use Rattle.command_load.proofs.command.load.Goals as goal
+use Rattle.command_serve.proofs.LoadLaws.{load_complete, load_not_linked, load_read_rose, load_sink_rose}
+use Rattle.command_serve.proofs.load.load.Goals as goal
 
 pub returns-clause-promise : goal.returns-clause-promise
 returns-clause-promise g c = λ links.

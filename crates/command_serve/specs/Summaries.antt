@@ -15,7 +15,7 @@ use Rattle.load_links.specs.Load.{load_script}
 use Rattle.ports.specs.Counts.{greatest}
 use Rattle.ports.specs.Playing.{IsScriptedRun, bytes_taken}
 use Rattle.ports.specs.declared.entry.Entry.{Entry}
-use Rattle.command_load.specs.declared.summary.Summary.{Summary}
+use Rattle.command_serve.specs.declared.summary.Summary.{Summary}
 
 -- the line of a summary
 abbrev pub summary_line : Summary → List ℕ

@@ -1,5 +1,5 @@
 ghost use Rattle.std.specs.Prelude.{◌≡◌, IfOk};
-ghost use Rattle.command_load.specs.Summaries.{summary_line};
+ghost use Rattle.command_serve.specs.Summaries.{summary_line};
 
 use ev_types::{Memory, Text};
 use std::alloc::Global;

@@ -1,6 +1,6 @@
 use Rattle.command_setup.specs.command_io.Reports.{reports}
 use Rattle.command_serve.proofs.ServeLaws.{serve_complete, serve_links_rose, serve_read_rose, serve_sink_rose}
-use Rattle.command_serve.proofs.command.serve.Goals as goal
+use Rattle.command_serve.proofs.serve.serve.Goals as goal
 
 pub returns-clause-promise : goal.returns-clause-promise
 returns-clause-promise g c =

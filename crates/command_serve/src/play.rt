@@ -1,6 +1,6 @@
 ghost use Rattle.std.specs.Prelude.{◌≡◌, ◌≤◌, IfErr, IfOk, OnErr};
 ghost use Rattle.command_setup.specs.hub_run.declared.fault.RunFault.TheVariants.{Memory as out_of_memory};
-ghost use Rattle.command_load.specs.Summaries.{IsCutOff, IsPlayed};
+ghost use Rattle.command_serve.specs.Summaries.{IsCutOff, IsPlayed};
 ghost use Rattle.ev_types.specs.Interval.{IsInterval};
 
 use crate::summary::Summary;

@@ -16,8 +16,8 @@ use Rattle.command_setup.specs.command_io.Endings.{Says, status_of}
 use Rattle.command_setup.specs.command_io.Reports.{IsIdle, Reports}
 use Rattle.command_setup.specs.command_io.Accepting.{RefusesSetup}
 use Rattle.command_setup.specs.Setups.{SetsUp}
-use Rattle.command_load.specs.Summaries.{IsCutOff, IsPlayed, summary_line}
-use Rattle.command_load.specs.declared.summary.Summary.{Summary}
+use Rattle.command_serve.specs.Summaries.{IsCutOff, IsPlayed, summary_line}
+use Rattle.command_serve.specs.declared.summary.Summary.{Summary}
 
 -- the summary was written as a line, or a prefix of it, or memory ran out first
 abbrev pub WritesSummary : Summary → SinkReport → SinkReport → Ending → Type 0

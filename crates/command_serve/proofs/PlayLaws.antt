@@ -23,8 +23,8 @@ use Rattle.ports.specs.ScriptLinks.{ScriptedCalls, script_report}
 use Rattle.ports.specs.declared.entry.Entry.{Entry}
 use Rattle.ports.specs.declared.script.Script.{Script}
 use Rattle.stream_meaning.specs.Arrivals.{Arrival}
-use Rattle.command_load.specs.Summaries.{IsCutOff, IsPlayed, counted, summary_of}
-use Rattle.command_load.specs.declared.summary.Summary.{Summary}
+use Rattle.command_serve.specs.Summaries.{IsCutOff, IsPlayed, counted, summary_of}
+use Rattle.command_serve.specs.declared.summary.Summary.{Summary}
 
 -- ---- the lines that were counted
 

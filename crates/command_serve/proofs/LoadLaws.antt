@@ -20,8 +20,8 @@ use Rattle.ports.specs.Writing.{SinkReport}
 use Rattle.command_setup.specs.command_io.Reports.{Reports as Reporting}
 use Rattle.command_setup.proofs.CommandIoReadLaws.{read_alone}
 use Rattle.command_setup.proofs.SetupLaws.{refused_for_memory, refused_not_linked, refused_not_written, refused_rose}
-use Rattle.command_load.specs.Loads.{LoadEnds, RunEnds, WritesSummary}
-use Rattle.command_load.specs.declared.summary.Summary.{Summary}
+use Rattle.command_serve.specs.Loads.{LoadEnds, RunEnds, WritesSummary}
+use Rattle.command_serve.specs.declared.summary.Summary.{Summary}
 
 -- ---- how it ends after a run
 
