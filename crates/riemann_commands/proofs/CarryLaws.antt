@@ -9,12 +9,12 @@ use Rattle.command_io.specs.Lines.{usage_line}
 use Rattle.command_io.specs.Reports.{Reports}
 use Rattle.command_io.specs.declared.status.Status.{Status}
 use Rattle.command_io.specs.declared.status.Status.TheVariants.{Usage}
-use Rattle.command_feed.specs.Feeds.{Feeds}
+use Rattle.command_files.specs.Feeds.{Feeds}
 use Rattle.command_texts.specs.Converts.{Converts}
 use Rattle.command_serve.specs.Loads.{Loads}
 use Rattle.command_record.specs.Records.{Records}
 use Rattle.command_record.specs.Resumes.{Resumes}
-use Rattle.command_replay.specs.Replays.{Replays}
+use Rattle.command_files.specs.Replays.{Replays}
 use Rattle.disk_port.specs.Calls.{DiskReport}
 use Rattle.script_text.specs.Words.{number_of}
 use Rattle.command_serve.specs.Serves.{Serves}

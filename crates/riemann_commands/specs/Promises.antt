@@ -9,7 +9,7 @@ use Rattle.command_io.specs.Reports.{Reports}
 use Rattle.command_io.specs.declared.status.Status.{Status}
 use Rattle.command_io.specs.declared.status.Status.TheVariants.{Done, Usage, ReadFault, SinkFault, LinkFault, Memory}
 use Rattle.command_io.specs.declared.status.Status.TheVariants.{DiskFault}
-use Rattle.command_feed.specs.Feeds.{Feeds}
+use Rattle.command_files.specs.Feeds.{Feeds}
 use Rattle.command_texts.specs.Converts.{Converts}
 use Rattle.command_serve.specs.Loads.{Loads}
 use Rattle.disk_port.specs.Calls.{DiskReport}
@@ -17,7 +17,7 @@ use Rattle.ports.specs.Counts.{Rose}
 use Rattle.ports.specs.Writing.{Got, GotPrefix, SinkReport}
 use Rattle.command_record.specs.Records.{Records}
 use Rattle.command_record.specs.Resumes.{Resumes}
-use Rattle.command_replay.specs.Replays.{Replays}
+use Rattle.command_files.specs.Replays.{Replays}
 use Rattle.command_serve.specs.Serves.{Serves}
 use Rattle.command_test.specs.RunsTests.{RunsTests}
 use Rattle.riemann_commands.specs.Commands.{IsCommand}

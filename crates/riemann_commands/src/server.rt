@@ -5,10 +5,9 @@ ghost use Rattle.riemann_commands.specs.Promises.{Promises, sameness};
 
 use crate::command::{Command, command_of};
 use command_client::{query, send};
-use command_feed::feed;
+use command_files::{feed, replay};
 use command_io::{Status, USAGE, put_line};
 use command_record::{record, resume};
-use command_replay::replay;
 use command_serve::{load, serve};
 use command_test::run_tests;
 use command_texts::{check, graphite};

@@ -1,2 +1,0 @@
-pub mod BytesLaws
-pub mod FeedLaws

@@ -1,8 +1,0 @@
-//! The command that feeds a file to a server.
-#![tactic(auto)]
-
-mod command;
-mod left;
-mod serve;
-
-pub use command::feed;

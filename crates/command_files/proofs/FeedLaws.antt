@@ -1,0 +1,321 @@
+-- What `feed` promises, from what its parts say.
+use Rattle.std.proofs.Common.{◌≡◌, ℕ, ◌≤◌, ◌⊎◌, List, length, refl, sym, inl, inr, subst, arith}
+use Rattle.command_setup.proofs.CommandIoEndingLaws.{reported_of}
+use Rattle.command_setup.specs.command_io.Endings.{Says, status_of}
+use Rattle.ports.specs.Calls.{LinksReport}
+use Rattle.ports.specs.Writing.{SinkReport}
+use Rattle.command_setup.specs.command_io.Reports.{Reports, reports}
+use Rattle.command_setup.specs.command_io.declared.ending.Ending.{Ending}
+use Rattle.command_setup.specs.command_io.declared.ending.Ending.TheVariants.{Finished, ConfigRefused, Unread, OverLimit}
+use Rattle.command_setup.specs.command_io.declared.ending.Ending.TheVariants.{BytesLeft, WriteFailed, LinksFailed}
+use Rattle.command_setup.specs.command_io.declared.ending.Ending.TheVariants.{ScriptRefused, OutOfMemory}
+use Rattle.command_setup.specs.command_io.declared.limits.TheConstants.{CONFIG_LIMIT, FILE_LIMIT}
+use Rattle.command_setup.specs.command_io.declared.status.Status.TheVariants.{ReadFault, SinkFault, LinkFault}
+use Rattle.command_setup.proofs.SetupLaws.{refused_for_memory, refused_not_linked, refused_not_written, refused_rose}
+use Rattle.command_setup.specs.Setups.{SetsUp}
+use Rattle.command_files.proofs.OtherLaws.{file_refused_for_memory, file_refused_since, file_rose}
+use Rattle.command_files.specs.Files.{IsFile, ReadsBoth, RefusesFile}
+use Rattle.framing.specs.Frames.{partial}
+use Rattle.command_setup.specs.hub_meaning.Verdicts.{PatternsReport}
+use Rattle.command_setup.specs.hub_run.declared.setup.Setup.{Setup}
+use Rattle.ports.specs.Counts.{IsStill, Rose}
+use Rattle.ports.specs.Reading.{Content, IsHeld, StoreReport}
+use Rattle.command_setup.specs.sexp_config.declared.config.Config.{Config}
+use Rattle.command_setup.specs.sexp_config.Config.{IsConfigOf}
+use Rattle.command_files.specs.Feeds.{BytesEnd, FeedEnds, FeedsAll, FileEnds, HasFed}
+
+-- ---- what a run does not depend on
+
+all_since : (setup : Setup) (bytes : List ℕ) (store mid store' : StoreReport) (links : LinksReport)
+    (out out' err err' : SinkReport)
+    (patterns patterns' : PatternsReport) (forks forks' : ℕ) (Wrote : List ℕ → Type 0)
+    → FeedsAll setup bytes (reports mid links out err patterns forks) (reports store' links out' err' patterns' forks')
+    Wrote
+    → FeedsAll setup bytes (reports store links out err patterns forks)
+    (reports store' links out' err' patterns' forks') Wrote
+all_since setup bytes store mid store' links out out' err err' patterns patterns' forks forks' Wrote all =
+    record {
+      run = all.run;
+      scripted = all.scripted;
+      hub = all.hub;
+      ran = all.ran;
+      wrote = all.wrote;
+      all_lines = all.all_lines;
+    }
+
+-- what the store reported does not matter once the file was read
+bytes_since : (setup : Setup) (bytes : List ℕ) (store mid store' : StoreReport) (links : LinksReport)
+    (out out' err err' : SinkReport)
+    (patterns patterns' : PatternsReport) (forks forks' : ℕ) (ending : Ending)
+    → BytesEnd setup bytes (reports mid links out err patterns forks) (reports store' links out' err' patterns' forks')
+    ending
+    → BytesEnd setup bytes (reports store links out err patterns forks)
+    (reports store' links out' err' patterns' forks') ending
+bytes_since setup bytes store mid store' links out out' err err' patterns patterns' forks forks' Finished ends =
+    (all_since setup bytes store mid store' links out out' err err' patterns patterns' forks forks' _ ends.0, ends.1)
+bytes_since setup bytes store mid store' links out out' err err' patterns patterns' forks forks' (BytesLeft count)
+    ends = (
+      all_since setup bytes store mid store' links out out' err err' patterns patterns' forks forks' _ ends.0,
+      ends.1,
+      ends.2,
+    )
+bytes_since setup bytes store mid store' links out out' err err' patterns patterns' forks forks' WriteFailed ends =
+    elim ends [
+      | inl some ↦ inl (record { run = some.0.run; ran = some.0.ran; no_reply = some.0.no_reply }, some.1)
+      | inr all ↦
+          inr (
+            all_since setup bytes store mid store' links out out' err err' patterns patterns' forks forks' _ all.0,
+            all.1,
+          )
+    ]
+bytes_since setup bytes store mid store' links out out' err err' patterns patterns' forks forks' OutOfMemory ends =
+    elim ends [
+      | inl idle ↦ inl idle
+      | inr some ↦ inr (record { run = some.0.run; ran = some.0.ran; no_reply = some.0.no_reply }, some.1)
+    ]
+bytes_since setup bytes store mid store' links out out' err err' patterns patterns' forks forks' (ConfigRefused refusal)
+    ends =
+    absurd ends
+bytes_since setup bytes store mid store' links out out' err err' patterns patterns' forks forks' (Unread unread) ends =
+    absurd ends
+bytes_since setup bytes store mid store' links out out' err err' patterns patterns' forks forks' (OverLimit over limit)
+    ends =
+    absurd ends
+bytes_since setup bytes store mid store' links out out' err err' patterns patterns' forks forks' LinksFailed ends =
+    absurd ends
+bytes_since setup bytes store mid store' links out out' err err' patterns patterns' forks forks' (ScriptRefused line)
+    ends =
+    absurd ends
+
+-- the configuration was accepted, and then the file was refused or fed
+pub feed_ended : (config file : List ℕ) (setup : Setup) (store mid store' : StoreReport) (links : LinksReport)
+    (out out' err err' : SinkReport)
+    (patterns between patterns' : PatternsReport) (forks forks' : ℕ) (Unasked : Type 0) (ending : Ending)
+    → SetsUp (store.held config) setup
+    → mid.faults ≡ store.faults → store.taken ≤ mid.taken → between ≡ patterns → mid.held ≡ store.held
+    → ReadsBoth config file store.reads store'.reads ending
+    → FileEnds setup file (reports mid links out err between forks) (reports store' links out' err' patterns' forks')
+    ending
+    → FeedEnds config file (reports store links out err patterns forks)
+    (reports store' links out' err' patterns' forks') Unasked ending
+feed_ended config file setup store mid store' links out out' err err' patterns between patterns' forks forks' Unasked
+    ending sets faults taken same held reads ends =
+    let moved : FileEnds setup file (reports mid links out err patterns forks)
+    (reports store' links out' err' patterns' forks') ending
+    = subst
+    (λ state. FileEnds setup file (reports mid links out err state forks)
+    (reports store' links out' err' patterns' forks') ending)
+    same ends in
+    inr (
+      setup,
+      sets,
+      reads,
+      elim moved [
+        | inl refused ↦
+            inl (
+              file_refused_since file store mid store' ending faults taken held refused.0,
+              refused.1,
+              refused.2,
+              refused.3,
+            )
+        | inr fed ↦ inr (
+          fed.0,
+          subst (λ (files : List ℕ → Content). IsFile (files file) fed.0) held fed.1,
+          bytes_since setup fed.0 store mid store' links out out' err err' patterns patterns' forks forks' ending fed.2,
+        )
+      ],
+    )
+
+-- ---- how a run does not end
+
+bytes_not_read : (setup : Setup) (bytes : List ℕ) (old new : Reports) (ending : Ending)
+    → BytesEnd setup bytes old new ending → status_of ending ≡ ReadFault → ⊥
+bytes_not_read setup bytes old new Finished ends e = cc
+bytes_not_read setup bytes old new (BytesLeft count) ends e = cc
+bytes_not_read setup bytes old new WriteFailed ends e = cc
+bytes_not_read setup bytes old new OutOfMemory ends e = cc
+bytes_not_read setup bytes old new (ConfigRefused refusal) ends e = ends
+bytes_not_read setup bytes old new (Unread unread) ends e = ends
+bytes_not_read setup bytes old new (OverLimit over limit) ends e = ends
+bytes_not_read setup bytes old new LinksFailed ends e = ends
+bytes_not_read setup bytes old new (ScriptRefused line) ends e = ends
+
+bytes_not_linked : (setup : Setup) (bytes : List ℕ) (old new : Reports) (ending : Ending)
+    → BytesEnd setup bytes old new ending → status_of ending ≡ LinkFault → ⊥
+bytes_not_linked setup bytes old new Finished ends e = cc
+bytes_not_linked setup bytes old new (BytesLeft count) ends e = cc
+bytes_not_linked setup bytes old new WriteFailed ends e = cc
+bytes_not_linked setup bytes old new OutOfMemory ends e = cc
+bytes_not_linked setup bytes old new (ConfigRefused refusal) ends e = ends
+bytes_not_linked setup bytes old new (Unread unread) ends e = ends
+bytes_not_linked setup bytes old new (OverLimit over limit) ends e = ends
+bytes_not_linked setup bytes old new LinksFailed ends e = ends
+bytes_not_linked setup bytes old new (ScriptRefused line) ends e = ends
+
+file_not_linked : (name : List ℕ) (old new : StoreReport) (ending : Ending) → RefusesFile name old new ending
+    → status_of ending ≡ LinkFault → ⊥
+file_not_linked name old new Finished refuses e = cc
+file_not_linked name old new (ConfigRefused refusal) refuses e = cc
+file_not_linked name old new (Unread unread) refuses e = cc
+file_not_linked name old new (OverLimit over limit) refuses e = cc
+file_not_linked name old new (BytesLeft count) refuses e = cc
+file_not_linked name old new WriteFailed refuses e = cc
+file_not_linked name old new LinksFailed refuses e = refuses
+file_not_linked name old new (ScriptRefused line) refuses e = cc
+file_not_linked name old new OutOfMemory refuses e = cc
+
+file_not_written : (name : List ℕ) (old new : StoreReport) (ending : Ending) → RefusesFile name old new ending
+    → status_of ending ≡ SinkFault → ⊥
+file_not_written name old new Finished refuses e = cc
+file_not_written name old new (ConfigRefused refusal) refuses e = cc
+file_not_written name old new (Unread unread) refuses e = cc
+file_not_written name old new (OverLimit over limit) refuses e = cc
+file_not_written name old new (BytesLeft count) refuses e = cc
+file_not_written name old new WriteFailed refuses e = refuses
+file_not_written name old new LinksFailed refuses e = cc
+file_not_written name old new (ScriptRefused line) refuses e = cc
+file_not_written name old new OutOfMemory refuses e = cc
+
+-- ---- the causes of faults
+
+bytes_wrote : (setup : Setup) (bytes : List ℕ) (old new : Reports) (ending : Ending)
+    → BytesEnd setup bytes old new ending → status_of ending ≡ SinkFault
+    → Rose old.out.faults new.out.faults ⊎ Rose old.err.faults new.err.faults
+bytes_wrote setup bytes old new WriteFailed ends e = elim ends [
+  | inl some ↦ inr some.1
+  | inr all ↦ inl all.1
+]
+bytes_wrote setup bytes old new Finished ends e = cc
+bytes_wrote setup bytes old new (BytesLeft count) ends e = cc
+bytes_wrote setup bytes old new OutOfMemory ends e = cc
+bytes_wrote setup bytes old new (ConfigRefused refusal) ends e = absurd ends
+bytes_wrote setup bytes old new (Unread unread) ends e = absurd ends
+bytes_wrote setup bytes old new (OverLimit over limit) ends e = absurd ends
+bytes_wrote setup bytes old new LinksFailed ends e = absurd ends
+bytes_wrote setup bytes old new (ScriptRefused line) ends e = absurd ends
+
+pub feed_read_rose : (config file : List ℕ) (old new : Reports) (Unasked : Type 0) (ending : Ending)
+    → FeedEnds config file old new Unasked ending
+    → status_of ending ≡ ReadFault → Rose old.store.faults new.store.faults
+feed_read_rose config file old new Unasked ending ends e = elim ends [
+  | inl refused ↦ refused_rose config old.store new.store old.patterns new.patterns ending refused.0 e
+  | inr accepted ↦ elim accepted.3 [
+    | inl refused ↦ file_rose file old.store new.store ending refused.0 e
+    | inr fed ↦ absurd (bytes_not_read accepted.0 fed.0 old new ending fed.2 e)
+  ]
+]
+
+feed_sink_rose : (config file : List ℕ) (old new : Reports) (Unasked : Type 0) (ending : Ending)
+    → FeedEnds config file old new Unasked ending
+    → status_of ending ≡ SinkFault → Rose old.out.faults new.out.faults ⊎ Rose old.err.faults new.err.faults
+feed_sink_rose config file old new Unasked ending ends e = elim ends [
+  | inl refused ↦ absurd (refused_not_written config old.store new.store old.patterns new.patterns ending refused.0 e)
+  | inr accepted ↦ elim accepted.3 [
+    | inl refused ↦ absurd (file_not_written file old.store new.store ending refused.0 e)
+    | inr fed ↦ bytes_wrote accepted.0 fed.0 old new ending fed.2 e
+  ]
+]
+
+pub feed_not_linked : (config file : List ℕ) (old new : Reports) (Unasked : Type 0) (ending : Ending)
+    → FeedEnds config file old new Unasked ending
+    → status_of ending ≡ LinkFault → ⊥
+feed_not_linked config file old new Unasked ending ends e = elim ends [
+  | inl refused ↦ refused_not_linked config old.store new.store old.patterns new.patterns ending refused.0 e
+  | inr accepted ↦ elim accepted.3 [
+    | inl refused ↦ file_not_linked file old.store new.store ending refused.0 e
+    | inr fed ↦ bytes_not_linked accepted.0 fed.0 old new ending fed.2 e
+  ]
+]
+
+-- after a write that failed nothing more is written
+said_nothing : (ending : Ending) (old new : SinkReport) → Says ending old new → status_of ending ≡ SinkFault → new ≡ old
+said_nothing WriteFailed old new says e = says
+said_nothing Finished old new says e = cc
+said_nothing (BytesLeft count) old new says e = cc
+said_nothing OutOfMemory old new says e = cc
+said_nothing (ConfigRefused refusal) old new says e = cc
+said_nothing (Unread unread) old new says e = cc
+said_nothing (OverLimit over limit) old new says e = cc
+said_nothing LinksFailed old new says e = cc
+said_nothing (ScriptRefused line) old new says e = cc
+
+-- so what is known of the error stream before the line of the ending is known of it after that
+pub feed_write_rose : (config file : List ℕ) (old new : Reports) (Unasked : Type 0) (after : SinkReport)
+    (ending : Ending)
+    → FeedEnds config file old new Unasked ending → Says ending new.err after → status_of ending ≡ SinkFault
+    → Rose old.out.faults new.out.faults ⊎ Rose old.err.faults after.faults
+feed_write_rose config file old new Unasked after ending ends says e =
+    elim (feed_sink_rose config file old new Unasked ending ends e) [
+      | inl rose ↦ inl rose
+      | inr rose ↦
+          inr (subst (λ (sink : SinkReport). Rose old.err.faults sink.faults)
+          (sym (said_nothing ending new.err after says e)) rose)
+    ]
+
+still_before : (old before after : SinkReport) (ending : Ending) → Says ending before after
+    → IsStill old.faults after.faults → status_of ending ≡ SinkFault → IsStill old.faults before.faults
+still_before old before after ending says still e =
+    subst (λ (sink : SinkReport). IsStill old.faults sink.faults) (said_nothing ending before after says e) still
+
+-- ---- completeness
+
+for_memory : (rest : List ℕ) (ending : Ending) → ending ≡ OutOfMemory → HasFed rest (status_of ending)
+for_memory rest ending e = rw e tt
+
+bytes_complete : (setup : Setup) (bytes : List ℕ) (old new : Reports) (ending : Ending)
+    → BytesEnd setup bytes old new ending
+    → IsStill old.out.faults new.out.faults → (status_of ending ≡ SinkFault → IsStill old.err.faults new.err.faults)
+    → HasFed (partial bytes) (status_of ending)
+bytes_complete setup bytes old new Finished ends out_still err_still = ends.1
+bytes_complete setup bytes old new (BytesLeft count) ends out_still err_still = ends.1
+bytes_complete setup bytes old new OutOfMemory ends out_still err_still = tt
+bytes_complete setup bytes old new WriteFailed ends out_still err_still = elim ends [
+  | inl some ↦ absurd (let still = err_still refl in omega (arith, some.1, still.0, still.1))
+  | inr all ↦ absurd (omega (arith, all.1, out_still.0, out_still.1))
+]
+bytes_complete setup bytes old new (ConfigRefused refusal) ends out_still err_still = absurd ends
+bytes_complete setup bytes old new (Unread unread) ends out_still err_still = absurd ends
+bytes_complete setup bytes old new (OverLimit over limit) ends out_still err_still = absurd ends
+bytes_complete setup bytes old new LinksFailed ends out_still err_still = absurd ends
+bytes_complete setup bytes old new (ScriptRefused line) ends out_still err_still = absurd ends
+
+feed_complete : (config file : List ℕ) (old new : Reports) (Unasked : Type 0) (text bytes : List ℕ) (read : Config)
+    (ending : Ending)
+    → FeedEnds config file old new Unasked ending → IsHeld (old.store.held config) text → IsConfigOf text read
+    → length text ≤ CONFIG_LIMIT
+    → IsHeld (old.store.held file) bytes → length bytes ≤ FILE_LIMIT
+    → IsStill old.store.faults new.store.faults → IsStill old.out.faults new.out.faults
+    → (status_of ending ≡ SinkFault → IsStill old.err.faults new.err.faults)
+    → IsStill old.patterns.refusals new.patterns.refusals → HasFed (partial bytes) (status_of ending)
+feed_complete config file old new Unasked text bytes read ending ends holds is fits holds_bytes bytes_fit reads_still
+    out_still err_still still =
+    elim ends [
+      | inl refused ↦
+          for_memory _ ending (refused_for_memory config text read old.store new.store old.patterns new.patterns ending
+          holds is fits reads_still still refused.0)
+      | inr accepted ↦ elim accepted.3 [
+        | inl refused ↦
+            for_memory _ ending
+            (file_refused_for_memory file bytes old.store new.store ending holds_bytes bytes_fit reads_still refused.0)
+        | inr fed ↦
+            let same : bytes ≡ fed.0 =
+            (reported_of (old.store.held file) bytes (λ held. held ≡ fed.0) holds_bytes
+            (λ held reported. let is = fed.1 held reported in (is.0, is.1, is.2.0))) in
+            subst (λ (list : List ℕ). HasFed (partial list) (status_of ending)) (sym same)
+            (bytes_complete accepted.0 fed.0 old new ending fed.2 out_still err_still)
+      ]
+    ]
+
+pub feed_completes : (config file : List ℕ) (old new : Reports) (Unasked : Type 0) (after : SinkReport)
+    (text bytes : List ℕ) (read : Config)
+    (ending : Ending) → FeedEnds config file old new Unasked ending → Says ending new.err after
+    → IsHeld (old.store.held config) text
+    → IsConfigOf text read → length text ≤ CONFIG_LIMIT → IsHeld (old.store.held file) bytes → length bytes ≤ FILE_LIMIT
+    → IsStill old.store.faults new.store.faults → IsStill old.out.faults new.out.faults
+    → IsStill old.err.faults after.faults
+    → IsStill old.patterns.refusals new.patterns.refusals → HasFed (partial bytes) (status_of ending)
+feed_completes config file old new Unasked after text bytes read ending ends says holds is fits holds_bytes bytes_fit
+    reads_still out_still err_still still =
+    feed_complete config file old new Unasked text bytes read ending ends holds is fits holds_bytes bytes_fit
+    reads_still out_still
+    (still_before old.err new.err after ending says err_still) still

@@ -1,0 +1,152 @@
+-- What a command read of its two files, from what one read after another answered.
+use Rattle.std.proofs.Common.{◌≡◌, ℕ, suc, ◌≤◌, List, [], ◌∷◌, length, refl, ap, subst, arith}
+use Rattle.std.specs.Borrow.{Bor}
+use Rattle.std.specs.Prelude.{Option}
+use Rattle.command_setup.proofs.CommandIoReadLaws.{reads_both}
+use Rattle.command_setup.specs.command_io.Endings.{IsComplete, IsReadOnce, IsRefusal, status_of}
+use Rattle.command_setup.specs.command_io.Files.{IsFileFault, ReadMore, bad_read, good_read, reads_of_fault}
+use Rattle.command_setup.specs.command_io.Fetches.{ending_of_file}
+use Rattle.command_setup.specs.command_io.declared.ending.Ending.{Ending}
+use Rattle.command_setup.specs.command_io.declared.ending.Ending.TheVariants.{Finished, ConfigRefused, Unread, OverLimit, BytesLeft}
+use Rattle.command_setup.specs.command_io.declared.ending.Ending.TheVariants.{WriteFailed, LinksFailed, ScriptRefused, OutOfMemory}
+use Rattle.command_setup.specs.command_io.declared.limits.TheConstants.{FILE_LIMIT}
+use Rattle.command_setup.specs.command_io.declared.read.FileFault.{FileFault}
+use Rattle.command_setup.specs.command_io.declared.read.FileFault.TheVariants as file
+use Rattle.command_setup.specs.command_io.declared.status.Status.TheVariants.{ReadFault}
+use Rattle.command_setup.proofs.CommandIoEndingLaws.{not_over}
+use Rattle.ports.specs.Counts.{IsStill, Rose}
+use Rattle.ports.specs.Reading.{Content, IsHeld, IsOverLimit, StoreReport}
+use Rattle.ports.specs.declared.store.StoreRead.{StoreRead}
+use Rattle.command_files.specs.Files.{IsAfterRun, IsReadTwice, OtherReads, ReadsBoth, RefusesFile}
+
+-- ---- the other file alone
+
+pub other_refused : (name : List ℕ) (shown : Bor (List ℕ)) (old new : StoreReport) (fault : FileFault)
+    → shown.now ≡ name
+    → IsFileFault (old.held name) FILE_LIMIT old.faults new.faults old.taken new.taken fault
+    → RefusesFile name old new (ending_of_file shown FILE_LIMIT fault)
+other_refused name shown old new file.Unread is cause = (cause, is)
+other_refused name shown old new file.TooLong is cause = (cause.0, cause.1, is, refl)
+other_refused name shown old new file.Memory is cause = tt
+
+pub other_unread : (old new : Option (List StoreRead)) (name : List ℕ) (shown : Bor (List ℕ)) (fault : FileFault)
+    → ReadMore (reads_of_fault name fault) old new
+    → OtherReads name old new (ending_of_file shown FILE_LIMIT fault)
+other_unread old new name shown file.Unread grew =
+    record { made = bad_read name ∷ []; grew = grew; named = refl; counted = refl; failed = refl }
+other_unread old new name shown file.TooLong grew =
+    record { made = good_read name ∷ []; grew = grew; named = refl; counted = refl; failed = (refl, tt) }
+other_unread old new name shown file.Memory grew =
+    record { made = []; grew = grew; named = refl; counted = tt; failed = tt }
+
+-- it was read, and the server was run
+pub other_read : (old new : Option (List StoreRead)) (name : List ℕ) (ending : Ending) → IsAfterRun ending
+    → ReadMore (good_read name ∷ []) old new
+    → OtherReads name old new ending
+other_read old new name Finished after grew =
+    record { made = good_read name ∷ []; grew = grew; named = refl; counted = refl; failed = (refl, tt) }
+other_read old new name (ConfigRefused refusal) after grew = absurd after
+other_read old new name (Unread unread) after grew = absurd after
+other_read old new name (OverLimit over limit) after grew = absurd after
+other_read old new name (BytesLeft count) after grew =
+    record { made = good_read name ∷ []; grew = grew; named = refl; counted = refl; failed = (refl, tt) }
+other_read old new name WriteFailed after grew =
+    record { made = good_read name ∷ []; grew = grew; named = refl; counted = refl; failed = (refl, tt) }
+other_read old new name LinksFailed after grew = absurd after
+other_read old new name (ScriptRefused line) after grew = absurd after
+other_read old new name OutOfMemory after grew =
+    record { made = good_read name ∷ []; grew = grew; named = refl; counted = tt; failed = (refl, tt) }
+
+pub run_not_refused : (ending : Ending) → IsAfterRun ending → IsRefusal (status_of ending) → ⊥
+run_not_refused Finished after refusal = refusal
+run_not_refused (ConfigRefused why) after refusal = after
+run_not_refused (Unread unread) after refusal = after
+run_not_refused (OverLimit over limit) after refusal = after
+run_not_refused (BytesLeft count) after refusal = refusal
+run_not_refused WriteFailed after refusal = refusal
+run_not_refused LinksFailed after refusal = after
+run_not_refused (ScriptRefused line) after refusal = after
+run_not_refused OutOfMemory after refusal = refusal
+
+-- ---- the file was refused
+
+pub file_not_complete : (name : List ℕ) (old new : StoreReport) (ending : Ending) → RefusesFile name old new ending
+    → IsComplete ending → ⊥
+file_not_complete name old new Finished refuses complete = refuses
+file_not_complete name old new (ConfigRefused refusal) refuses complete = complete
+file_not_complete name old new (Unread unread) refuses complete = complete
+file_not_complete name old new (OverLimit over limit) refuses complete = complete
+file_not_complete name old new (BytesLeft count) refuses complete = refuses
+file_not_complete name old new WriteFailed refuses complete = complete
+file_not_complete name old new LinksFailed refuses complete = complete
+file_not_complete name old new (ScriptRefused line) refuses complete = complete
+file_not_complete name old new OutOfMemory refuses complete = complete
+
+-- what was counted since a later moment was counted since an earlier one
+pub file_refused_since : (name : List ℕ) (old mid new : StoreReport) (ending : Ending) → mid.faults ≡ old.faults
+    → old.taken ≤ mid.taken
+    → mid.held ≡ old.held → RefusesFile name mid new ending → RefusesFile name old new ending
+file_refused_since name old mid new Finished same rises held refuses = absurd refuses
+file_refused_since name old mid new (ConfigRefused refusal) same rises held refuses = absurd refuses
+file_refused_since name old mid new (Unread unread) same rises held refuses = (rw same at refuses.0, refuses.1)
+file_refused_since name old mid new (OverLimit over limit) same rises held refuses = (
+  subst (λ (files : List ℕ → Content). IsOverLimit (files name) FILE_LIMIT) held refuses.0,
+  λ small. omega (arith, refuses.1 small),
+  refuses.2,
+  refuses.3,
+)
+file_refused_since name old mid new (BytesLeft count) same rises held refuses = absurd refuses
+file_refused_since name old mid new WriteFailed same rises held refuses = absurd refuses
+file_refused_since name old mid new LinksFailed same rises held refuses = absurd refuses
+file_refused_since name old mid new (ScriptRefused line) same rises held refuses = absurd refuses
+file_refused_since name old mid new OutOfMemory same rises held refuses = tt
+
+pub file_rose : (name : List ℕ) (old new : StoreReport) (ending : Ending) → RefusesFile name old new ending
+    → status_of ending ≡ ReadFault
+    → Rose old.faults new.faults
+file_rose name old new Finished refuses e = cc
+file_rose name old new (ConfigRefused refusal) refuses e = cc
+file_rose name old new (Unread unread) refuses e = refuses.0
+file_rose name old new (OverLimit over limit) refuses e = cc
+file_rose name old new (BytesLeft count) refuses e = cc
+file_rose name old new WriteFailed refuses e = cc
+file_rose name old new LinksFailed refuses e = cc
+file_rose name old new (ScriptRefused line) refuses e = cc
+file_rose name old new OutOfMemory refuses e = cc
+
+-- a file within its limit is refused only for lack of memory, where no fault is counted
+pub file_refused_for_memory : (name bytes : List ℕ) (old new : StoreReport) (ending : Ending)
+    → IsHeld (old.held name) bytes
+    → length bytes ≤ FILE_LIMIT → IsStill old.faults new.faults → RefusesFile name old new ending → ending ≡ OutOfMemory
+file_refused_for_memory name bytes old new Finished holds fits still refuses = absurd refuses
+file_refused_for_memory name bytes old new (ConfigRefused refusal) holds fits still refuses = absurd refuses
+file_refused_for_memory name bytes old new (Unread unread) holds fits still refuses =
+    absurd (omega (arith, refuses.0, still.0, still.1))
+file_refused_for_memory name bytes old new (OverLimit over limit) holds fits still refuses =
+    absurd (not_over (old.held name) bytes FILE_LIMIT holds fits refuses.0)
+file_refused_for_memory name bytes old new (BytesLeft count) holds fits still refuses = absurd refuses
+file_refused_for_memory name bytes old new WriteFailed holds fits still refuses = absurd refuses
+file_refused_for_memory name bytes old new LinksFailed holds fits still refuses = absurd refuses
+file_refused_for_memory name bytes old new (ScriptRefused line) holds fits still refuses = absurd refuses
+file_refused_for_memory name bytes old new OutOfMemory holds fits still refuses = refl
+
+-- ---- both files
+
+counted_after : (ending : Ending) (count : ℕ) → IsReadOnce ending count → IsReadTwice ending (suc count)
+counted_after Finished count counted = ap suc counted
+counted_after (ConfigRefused refusal) count counted = ap suc counted
+counted_after (Unread unread) count counted = ap suc counted
+counted_after (OverLimit over limit) count counted = ap suc counted
+counted_after (BytesLeft left) count counted = ap suc counted
+counted_after WriteFailed count counted = ap suc counted
+counted_after LinksFailed count counted = ap suc counted
+counted_after (ScriptRefused line) count counted = ap suc counted
+counted_after OutOfMemory count counted = tt
+
+-- the configuration was read, and then the other file
+pub both_read : (old mid new : Option (List StoreRead)) (config other : List ℕ) (ending : Ending)
+    → ReadMore (good_read config ∷ []) old mid
+    → OtherReads other mid new ending → ReadsBoth config other old new ending
+both_read old mid new config other ending first second =
+    reads_both (IsReadOnce ending) (IsReadTwice ending) old mid new config other ending first (counted_after ending)
+    second

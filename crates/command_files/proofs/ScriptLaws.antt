@@ -1,0 +1,138 @@
+-- What is known of a script, from what its file and its text say.
+use Rattle.std.proofs.Common.{◌≡◌, ℕ, ◌≤◌, List, [], ◌∷◌, length, refl, subst, sym}
+use Rattle.std.specs.Prelude.{Option, Result, Ok, Err, IfErr}
+use Rattle.command_setup.proofs.CommandIoEndingLaws.{reported_of}
+use Rattle.command_setup.specs.command_io.Endings.{IsComplete, status_of}
+use Rattle.command_setup.specs.command_io.Files.{ForHeld, ReadMore, good_read}
+use Rattle.command_setup.specs.command_io.declared.ending.Ending.{Ending}
+use Rattle.command_setup.specs.command_io.declared.ending.Ending.TheVariants.{Finished, ConfigRefused, Unread, OverLimit}
+use Rattle.command_setup.specs.command_io.declared.ending.Ending.TheVariants.{BytesLeft, WriteFailed, LinksFailed}
+use Rattle.command_setup.specs.command_io.declared.ending.Ending.TheVariants.{ScriptRefused, OutOfMemory}
+use Rattle.command_setup.specs.command_io.declared.limits.TheConstants.{FILE_LIMIT}
+use Rattle.command_setup.specs.command_io.declared.status.Status.TheVariants.{ReadFault}
+use Rattle.command_files.proofs.OtherLaws.{file_refused_for_memory, file_refused_since, file_rose}
+use Rattle.command_files.specs.Files.{IsFile, OtherReads, ReadsOther, RefusesFile}
+use Rattle.ports.specs.Counts.{IsStill, Rose}
+use Rattle.ports.specs.Reading.{Content, IsHeld, StoreReport}
+use Rattle.ports.specs.declared.script.Script.{Script}
+use Rattle.ports.specs.declared.store.StoreRead.{StoreRead}
+use Rattle.script_text.specs.Scripts.{script_of}
+use Rattle.command_files.specs.Scripts.{RefusesScript, RefusesText}
+
+-- a fact of the bytes that were read, as one of the file
+pub for_file : (content : Content) (bytes : List ℕ) (P : List ℕ → Type 0) → IsFile content bytes → P bytes
+    → ForHeld content (λ held. (length held ≤ FILE_LIMIT) × P held)
+for_file content bytes P is fact = λ held reported. let file = is held reported in
+    (file.0, file.1, (rw file.2.0 file.2.1, subst P (sym file.2.0) fact))
+
+pub text_refused : (name bytes : List ℕ) (old new : StoreReport) (ending : Ending) → IsFile (old.held name) bytes
+    → RefusesText bytes ending
+    → RefusesScript name old new ending
+text_refused name bytes old new Finished is refuses = absurd refuses
+text_refused name bytes old new (ConfigRefused refusal) is refuses = absurd refuses
+text_refused name bytes old new (Unread unread) is refuses = absurd refuses
+text_refused name bytes old new (OverLimit over limit) is refuses = absurd refuses
+text_refused name bytes old new (BytesLeft count) is refuses = absurd refuses
+text_refused name bytes old new WriteFailed is refuses = absurd refuses
+text_refused name bytes old new LinksFailed is refuses = absurd refuses
+text_refused name bytes old new (ScriptRefused line) is refuses =
+    for_file (old.held name) bytes (λ text. script_of text ≡ Err line) is refuses
+text_refused name bytes old new OutOfMemory is refuses = tt
+
+pub file_refused : (name : List ℕ) (old new : StoreReport) (ending : Ending) → RefusesFile name old new ending
+    → RefusesScript name old new ending
+file_refused name old new Finished refuses = refuses
+file_refused name old new (ConfigRefused refusal) refuses = refuses
+file_refused name old new (Unread unread) refuses = refuses
+file_refused name old new (OverLimit over limit) refuses = refuses
+file_refused name old new (BytesLeft count) refuses = refuses
+file_refused name old new WriteFailed refuses = refuses
+file_refused name old new LinksFailed refuses = refuses
+file_refused name old new (ScriptRefused line) refuses = absurd refuses
+file_refused name old new OutOfMemory refuses = refuses
+
+refused_read : (old new : Option (List StoreRead)) (name text : List ℕ) (ending : Ending) → RefusesText text ending
+    → ReadMore (good_read name ∷ []) old new
+    → OtherReads name old new ending
+refused_read old new name text Finished refuses grew = absurd refuses
+refused_read old new name text (ConfigRefused refusal) refuses grew = absurd refuses
+refused_read old new name text (Unread unread) refuses grew = absurd refuses
+refused_read old new name text (OverLimit over limit) refuses grew = absurd refuses
+refused_read old new name text (BytesLeft count) refuses grew = absurd refuses
+refused_read old new name text WriteFailed refuses grew = absurd refuses
+refused_read old new name text LinksFailed refuses grew = absurd refuses
+refused_read old new name text (ScriptRefused line) refuses grew =
+    record { made = good_read name ∷ []; grew = grew; named = refl; counted = refl; failed = (refl, tt) }
+refused_read old new name text OutOfMemory refuses grew =
+    record { made = good_read name ∷ []; grew = grew; named = refl; counted = tt; failed = (refl, tt) }
+
+-- the file was read, whatever its text says
+pub text_read : {T : Type 0} (old new : Option (List StoreRead)) (name text : List ℕ) (result : Result T Ending)
+    → IfErr result (RefusesText text)
+    → ReadMore (good_read name ∷ []) old new → ReadsOther name old new result
+text_read old new name text (Ok links) refuses grew = grew
+text_read old new name text (Err ending) refuses grew = refused_read old new name text ending refuses grew
+
+-- ---- there is no script
+
+pub script_not_complete : (name : List ℕ) (old new : StoreReport) (ending : Ending) → RefusesScript name old new ending
+    → IsComplete ending → ⊥
+script_not_complete name old new Finished refuses complete = refuses
+script_not_complete name old new (ConfigRefused refusal) refuses complete = complete
+script_not_complete name old new (Unread unread) refuses complete = complete
+script_not_complete name old new (OverLimit over limit) refuses complete = complete
+script_not_complete name old new (BytesLeft count) refuses complete = refuses
+script_not_complete name old new WriteFailed refuses complete = complete
+script_not_complete name old new LinksFailed refuses complete = complete
+script_not_complete name old new (ScriptRefused line) refuses complete = complete
+script_not_complete name old new OutOfMemory refuses complete = complete
+
+pub script_refused_since : (name : List ℕ) (old mid new : StoreReport) (ending : Ending) → mid.faults ≡ old.faults
+    → old.taken ≤ mid.taken
+    → mid.held ≡ old.held → RefusesScript name mid new ending → RefusesScript name old new ending
+script_refused_since name old mid new Finished same rises held refuses = absurd refuses
+script_refused_since name old mid new (ConfigRefused refusal) same rises held refuses = absurd refuses
+script_refused_since name old mid new (Unread unread) same rises held refuses =
+    file_refused_since name old mid new (Unread unread) same rises held refuses
+script_refused_since name old mid new (OverLimit over limit) same rises held refuses =
+    file_refused_since name old mid new (OverLimit over limit) same rises held refuses
+script_refused_since name old mid new (BytesLeft count) same rises held refuses = absurd refuses
+script_refused_since name old mid new WriteFailed same rises held refuses = absurd refuses
+script_refused_since name old mid new LinksFailed same rises held refuses = absurd refuses
+script_refused_since name old mid new (ScriptRefused line) same rises held refuses =
+    subst
+    (λ (files : List ℕ → Content).
+    ForHeld (files name) (λ text. (length text ≤ FILE_LIMIT) × (script_of text ≡ Err line)))
+    held refuses
+script_refused_since name old mid new OutOfMemory same rises held refuses = tt
+
+pub script_rose : (name : List ℕ) (old new : StoreReport) (ending : Ending) → RefusesScript name old new ending
+    → status_of ending ≡ ReadFault
+    → Rose old.faults new.faults
+script_rose name old new Finished refuses e = cc
+script_rose name old new (ConfigRefused refusal) refuses e = cc
+script_rose name old new (Unread unread) refuses e = file_rose name old new (Unread unread) refuses e
+script_rose name old new (OverLimit over limit) refuses e = cc
+script_rose name old new (BytesLeft count) refuses e = cc
+script_rose name old new WriteFailed refuses e = cc
+script_rose name old new LinksFailed refuses e = cc
+script_rose name old new (ScriptRefused line) refuses e = cc
+script_rose name old new OutOfMemory refuses e = cc
+
+-- a script within its limit is refused only for lack of memory, where no fault is counted
+pub script_refused_for_memory : (name text : List ℕ) (script : Script) (old new : StoreReport) (ending : Ending)
+    → IsHeld (old.held name) text
+    → script_of text ≡ Ok script → length text ≤ FILE_LIMIT → IsStill old.faults new.faults
+    → RefusesScript name old new ending → ending ≡ OutOfMemory
+script_refused_for_memory name text script old new Finished holds is fits still refuses = absurd refuses
+script_refused_for_memory name text script old new (ConfigRefused refusal) holds is fits still refuses = absurd refuses
+script_refused_for_memory name text script old new (Unread unread) holds is fits still refuses =
+    file_refused_for_memory name text old new (Unread unread) holds fits still refuses
+script_refused_for_memory name text script old new (OverLimit over limit) holds is fits still refuses =
+    file_refused_for_memory name text old new (OverLimit over limit) holds fits still refuses
+script_refused_for_memory name text script old new (BytesLeft count) holds is fits still refuses = absurd refuses
+script_refused_for_memory name text script old new WriteFailed holds is fits still refuses = absurd refuses
+script_refused_for_memory name text script old new LinksFailed holds is fits still refuses = absurd refuses
+script_refused_for_memory name text script old new (ScriptRefused line) holds is fits still refuses =
+    let refused : script_of text ≡ Err line = (reported_of (old.held name) text _ holds refuses).1 in cc
+script_refused_for_memory name text script old new OutOfMemory holds is fits still refuses = refl

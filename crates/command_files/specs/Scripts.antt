@@ -1,0 +1,26 @@
+-- What is known of a script that was read, or could not be.
+use Rattle.std.specs.Prelude.{◌≡◌, ℕ, ◌≤◌, List, length, Ok, Err}
+use Rattle.command_setup.specs.command_io.Files.{ForHeld}
+use Rattle.command_setup.specs.command_io.declared.ending.Ending.{Ending}
+use Rattle.command_setup.specs.command_io.declared.ending.Ending.TheVariants.{ScriptRefused, OutOfMemory}
+use Rattle.command_setup.specs.command_io.declared.limits.TheConstants.{FILE_LIMIT}
+use Rattle.command_files.specs.Files.{RefusesFile}
+use Rattle.ports.specs.Reading.{Content, StoreReport}
+use Rattle.ports.specs.declared.script.Script.{Script}
+use Rattle.script_text.specs.Scripts.{script_of}
+
+-- the file is within its limit, and this script
+abbrev pub IsScript : Content → Script → Type 0
+IsScript content script = ForHeld content (λ text. (length text ≤ FILE_LIMIT) × (script_of text ≡ Ok script))
+
+-- why a text gives no script
+abbrev pub RefusesText : List ℕ → Ending → Type 0
+RefusesText text (ScriptRefused line) = script_of text ≡ Err line
+RefusesText text OutOfMemory = Unit {0}
+RefusesText text _ = ⊥
+
+-- why there is no script: the file of the name was not read, or its text is not one
+abbrev pub RefusesScript : List ℕ → StoreReport → StoreReport → Ending → Type 0
+RefusesScript name old new (ScriptRefused line) =
+    ForHeld (old.held name) (λ text. (length text ≤ FILE_LIMIT) × (script_of text ≡ Err line))
+RefusesScript name old new ending = RefusesFile name old new ending

@@ -1,3 +1,0 @@
-pub mod ScriptLaws
-pub mod PlayLaws
-pub mod ReplayLaws
