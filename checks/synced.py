@@ -12,7 +12,7 @@ import pathlib
 import sys
 import tempfile
 
-from journal import JOURNAL, READ, Keeper, config, event_of, expect_end, head, read_head, read_record
+from journal import JOURNAL, READ, Keeper, config, event_of, expect_end, read_head, read_record
 from server import OK, Checks, Failed, compiled, frame, receive
 
 REPLIES = 20

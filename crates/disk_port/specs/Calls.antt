@@ -24,7 +24,7 @@ HasCause old new (Ok value) = new ≡ old
 HasCause old new (Err Failed) = Fails old new
 HasCause old new (Err Memory) = new ≡ old
 
--- the names that a call of `open` adds: none where it was out of memory
+-- the names that a call of `open` or `create` adds: none where it was out of memory
 abbrev pub opened_by : List ℕ → Result Unit DiskError → List (List ℕ)
 opened_by name (Ok done) = name ∷ []
 opened_by name (Err Failed) = name ∷ []

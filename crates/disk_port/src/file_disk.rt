@@ -53,17 +53,9 @@ impl<'a, R: Files> FileDisk<'a, R> {
         ensures answered { IsErrOf result DiskError.Memory → ⊥ }
     {
         self.opened.add(name);
-        match opened {
-            Ok(file) => {
-                self.file = Some(file);
-                self.is_synced = false;
-                Ok(())
-            }
-            Err(_) => {
-                self.faults = self.faults.saturating_add(1);
-                Err(DiskError::Failed)
-            }
-        }
+        self.file = Some(answer(&mut self.faults, opened)?);
+        self.is_synced = false;
+        Ok(())
     }
 }
 
@@ -114,7 +106,7 @@ impl<'a, R: Files> Disk for FileDisk<'a, R> {
     }
 }
 
-/// Opens the file of the path for reading and writing.
+/// Opens the file of the path for reading and writing. With `create` it makes an empty one if there is none.
 fn open_file<R: Files>(rt: &R, path: &str, create: bool) -> io::Result<R::File> {
     let mut options = OpenOptions::new();
     options.read(true).write(true).create(create);
