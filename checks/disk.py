@@ -72,7 +72,8 @@ class Disk:
             place = BLOCK * struct.unpack("i", fcntl.ioctl(file, FIBMAP, struct.pack("i", block)))[0]
         with open(self.image, "r+b", buffering=0) as image:
             before = os.pread(image.fileno(), BLOCK, place)
-            if before != path.read_bytes()[BLOCK * block :][:BLOCK].ljust(BLOCK, b"\0"):
+            # Its last byte is a gate, which an idle turn may just have opened.
+            if before[:-1] != path.read_bytes()[BLOCK * block :][: BLOCK - 1]:
                 raise Failed("the block of the file is not found on the disk")
             self.fill()
             call("fallocate", "-p", "-o", place, "-l", BLOCK, self.image)
@@ -98,9 +99,9 @@ class Talk:
     def post(self, size):
         """Sends events whose frames have this size together. Gives whether all were answered."""
         events = events_of(size, 64 + len(self.answered))
-        self.client.sendall(b"".join(frame(event_of(*it)) for it in events))
         replies = b""
         with contextlib.suppress(OSError):
+            self.client.sendall(b"".join(frame(event_of(*it)) for it in events))
             replies = receive(self.client, len(OK) * len(events))
         self.answered += events[: len(replies) // len(OK)]
         return len(replies) == len(OK) * len(events)
