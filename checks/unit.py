@@ -169,7 +169,8 @@ class Service:
     def start(self, prepare=None, out=subprocess.DEVNULL):
         words = self.unit.words("ExecStart")
         how = {"preexec_fn": prepare, "restore_signals": False} if prepare else {}
-        self.process = subprocess.Popen(words, stdin=subprocess.DEVNULL, stdout=out, stderr=subprocess.PIPE, **how)
+        how |= {"stdin": subprocess.DEVNULL, "stdout": out, "stderr": subprocess.PIPE, "start_new_session": True}
+        self.process = subprocess.Popen(words, **how)
         self.checks.processes.append(self.process)
 
     def ask(self, message):
@@ -189,8 +190,12 @@ class Service:
         expect(self.ask(frame(event_of(b"a", 5))), OK[4:], "the reply to an event")
         self.kill()
 
+    def send(self, number):
+        """Sends a signal to all that was started, as systemd does."""
+        os.killpg(self.process.pid, number)
+
     def kill(self):
-        self.process.kill()
+        self.send(signal.SIGKILL)
         _, _, again = self.end()
         expect(again, True, "started again after a kill")
 
@@ -203,7 +208,7 @@ class Service:
         """It is started again, and has what it was sent before."""
         self.start()
         expect(self.ask(query(b"true")), reply_of(event_of(b"a", 5))[4:], "the index")
-        self.process.terminate()
+        self.send(signal.SIGTERM)
         expect(self.end(), (-signal.SIGTERM, "", False), "a server that is stopped")
 
 
@@ -271,6 +276,14 @@ def is_mounted_again(checks):
     service.goes_on()
 
 
+def end_all(checks):
+    for process in checks.processes:
+        with contextlib.suppress(ProcessLookupError):
+            os.killpg(process.pid, signal.SIGKILL)
+        process.wait()
+    checks.processes.clear()
+
+
 CHECKS = {
     "each status and signal, as the table says": is_as_the_table_says,
     "files in which a journal is begun, or resumed": is_begun_or_resumed,
@@ -291,7 +304,7 @@ def main():
             try:
                 checks.run(name, check)
             finally:
-                checks.end_all()
+                end_all(checks)
     return 1 if checks.failed else 0
 
 
