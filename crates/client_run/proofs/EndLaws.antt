@@ -1,5 +1,5 @@
 -- How an exchange ends, from its first call on.
-use Rattle.std.proofs.Common.{◌≡◌, ℕ, inl, inr, Bool, true, false, List, [], ◌++◌, Ok, Err, Option, None, refl, ap, sym}
+use Rattle.std.proofs.Common.{◌≡◌, ℕ, inl, inr, Bool, true, List, [], ◌++◌, Ok, Err, Option, None, refl, ap, sym}
 use Rattle.std.proofs.Common.{subst}
 use Rattle.ports.specs.declared.entry.Entry.{Entry}
 use Rattle.framing.specs.Frames.{has_frame}
@@ -12,7 +12,6 @@ use Rattle.client_run.specs.Runs.{Opens, RunsAs, RunsTo, TurnsTo}
 use Rattle.client_run.specs.Taking.{ListensOn, TakesAll}
 use Rattle.client_run.specs.declared.outcome.Exchanged.{Exchanged}
 use Rattle.client_run.specs.declared.outcome.Outcome.{Outcome}
-use Rattle.client_run.specs.declared.outcome.Outcome.TheVariants.{Whole}
 use Rattle.client_run.specs.declared.outcome.RunFault.{RunFault}
 use Rattle.client_run.specs.declared.outcome.RunFault.TheVariants.{Links, Memory}
 
@@ -21,10 +20,6 @@ pub unclosed_nothing : (log : Option (List Entry)) (link : Option ℕ) → link 
 unclosed_nothing log link is = subst (IsUnclosed log) (sym is) tt
 
 module _ (address stream : List ℕ) (limit : ℕ) where
-  pub ends_unasked : (exchanged : Exchanged) → has_frame stream ≡ false → exchanged.outcome ≡ Whole
-      → exchanged.replies ≡ [] → RunsTo address stream limit (Ok exchanged) []
-  ends_unasked exchanged none outcome replies =
-      subst (λ (b : Bool). RunsAs b address stream limit (Ok exchanged) []) (sym none) (refl, outcome, replies)
 
   module _ (some : has_frame stream ≡ true) where
     pub ends_at_once : RunsTo address stream limit (Err Memory) []

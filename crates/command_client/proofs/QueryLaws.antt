@@ -1,5 +1,5 @@
 -- The frame of a message that asks a query.
-use Rattle.std.proofs.Common.{◌≡◌, ℕ, ◌+◌, ◌<◌, ◌≤◌, ◌^◌, List, [], ◌∷◌, length, Some, refl, ap, sym, ◌∙◌, arith}
+use Rattle.std.proofs.Common.{◌≡◌, ℕ, ◌+◌, ◌<◌, ◌≤◌, ◌^◌, List, [], ◌∷◌, length, Some, ap, sym, ◌∙◌, arith}
 use Rattle.std.proofs.Common.{append-nil}
 use Rattle.framing.specs.Frames.{frames_of}
 use Rattle.framing.specs.declared.TheConstants.{BODY_LIMIT}

@@ -3,7 +3,7 @@ use Rattle.std.proofs.Common.{◌≡◌, ℕ, suc, ◌≤◌, List, [], ◌∷�
 use Rattle.std.specs.Borrow.{Bor}
 use Rattle.std.specs.Prelude.{Option}
 use Rattle.command_setup.proofs.CommandIoReadLaws.{reads_both}
-use Rattle.command_setup.specs.command_io.Endings.{IsComplete, IsReadOnce, IsRefusal, status_of}
+use Rattle.command_setup.specs.command_io.Endings.{IsReadOnce, IsRefusal, status_of}
 use Rattle.command_setup.specs.command_io.Files.{IsFileFault, ReadMore, bad_read, good_read, reads_of_fault}
 use Rattle.command_setup.specs.command_io.Fetches.{ending_of_file}
 use Rattle.command_setup.specs.command_io.declared.ending.Ending.{Ending}
@@ -39,24 +39,6 @@ other_unread old new name shown file.TooLong grew =
 other_unread old new name shown file.Memory grew =
     record { made = []; grew = grew; named = refl; counted = tt; failed = tt }
 
--- it was read, and the server was run
-pub other_read : (old new : Option (List StoreRead)) (name : List ℕ) (ending : Ending) → IsAfterRun ending
-    → ReadMore (good_read name ∷ []) old new
-    → OtherReads name old new ending
-other_read old new name Finished after grew =
-    record { made = good_read name ∷ []; grew = grew; named = refl; counted = refl; failed = (refl, tt) }
-other_read old new name (ConfigRefused refusal) after grew = absurd after
-other_read old new name (Unread unread) after grew = absurd after
-other_read old new name (OverLimit over limit) after grew = absurd after
-other_read old new name (BytesLeft count) after grew =
-    record { made = good_read name ∷ []; grew = grew; named = refl; counted = refl; failed = (refl, tt) }
-other_read old new name WriteFailed after grew =
-    record { made = good_read name ∷ []; grew = grew; named = refl; counted = refl; failed = (refl, tt) }
-other_read old new name LinksFailed after grew = absurd after
-other_read old new name (ScriptRefused line) after grew = absurd after
-other_read old new name OutOfMemory after grew =
-    record { made = good_read name ∷ []; grew = grew; named = refl; counted = tt; failed = (refl, tt) }
-
 pub run_not_refused : (ending : Ending) → IsAfterRun ending → IsRefusal (status_of ending) → ⊥
 run_not_refused Finished after refusal = refusal
 run_not_refused (ConfigRefused why) after refusal = after
@@ -69,18 +51,6 @@ run_not_refused (ScriptRefused line) after refusal = after
 run_not_refused OutOfMemory after refusal = refusal
 
 -- ---- the file was refused
-
-pub file_not_complete : (name : List ℕ) (old new : StoreReport) (ending : Ending) → RefusesFile name old new ending
-    → IsComplete ending → ⊥
-file_not_complete name old new Finished refuses complete = refuses
-file_not_complete name old new (ConfigRefused refusal) refuses complete = complete
-file_not_complete name old new (Unread unread) refuses complete = complete
-file_not_complete name old new (OverLimit over limit) refuses complete = complete
-file_not_complete name old new (BytesLeft count) refuses complete = refuses
-file_not_complete name old new WriteFailed refuses complete = complete
-file_not_complete name old new LinksFailed refuses complete = complete
-file_not_complete name old new (ScriptRefused line) refuses complete = complete
-file_not_complete name old new OutOfMemory refuses complete = complete
 
 -- what was counted since a later moment was counted since an earlier one
 pub file_refused_since : (name : List ℕ) (old mid new : StoreReport) (ending : Ending) → mid.faults ≡ old.faults

@@ -1,7 +1,6 @@
 -- What is known once a script was played, from what its run and the lines of the links say.
-use Rattle.std.proofs.Common.{◌≡◌, ◌≢◌, ℕ, List, inl, inr}
+use Rattle.std.proofs.Common.{◌≡◌, ◌≢◌, List, inl, inr}
 use Rattle.std.specs.Prelude.{Result, Err}
-use Rattle.command_setup.specs.command_io.Endings.{IsComplete}
 use Rattle.ports.specs.Writing.{SinkReport}
 use Rattle.command_setup.specs.command_io.Reports.{Reports}
 use Rattle.command_setup.specs.command_io.declared.ending.Ending.{Ending}
@@ -59,15 +58,3 @@ play_ended setup script old new before run (OverLimit over limit) ran same write
 play_ended setup script old new before run (BytesLeft count) ran same writes = absurd writes
 play_ended setup script old new before run LinksFailed ran same writes = absurd writes
 play_ended setup script old new before run (ScriptRefused line) ran same writes = absurd writes
-
-pub lines_quiet : (lines : List ℕ) (old new : SinkReport) (ending : Ending) → WritesLines lines old new ending
-    → IsComplete ending → new.faults ≡ old.faults
-lines_quiet lines old new Finished writes complete = writes.1
-lines_quiet lines old new WriteFailed writes complete = absurd complete
-lines_quiet lines old new OutOfMemory writes complete = absurd complete
-lines_quiet lines old new (ConfigRefused refusal) writes complete = absurd complete
-lines_quiet lines old new (Unread unread) writes complete = absurd complete
-lines_quiet lines old new (OverLimit over limit) writes complete = absurd complete
-lines_quiet lines old new (BytesLeft count) writes complete = absurd writes
-lines_quiet lines old new LinksFailed writes complete = absurd complete
-lines_quiet lines old new (ScriptRefused line) writes complete = absurd complete

@@ -2,7 +2,7 @@
 use Rattle.std.proofs.Common.{◌≡◌, ℕ, ◌≤◌, List, [], ◌∷◌, length, refl, subst, sym}
 use Rattle.std.specs.Prelude.{Option, Result, Ok, Err, IfErr}
 use Rattle.command_setup.proofs.CommandIoEndingLaws.{reported_of}
-use Rattle.command_setup.specs.command_io.Endings.{IsComplete, status_of}
+use Rattle.command_setup.specs.command_io.Endings.{status_of}
 use Rattle.command_setup.specs.command_io.Files.{ForHeld, ReadMore, good_read}
 use Rattle.command_setup.specs.command_io.declared.ending.Ending.{Ending}
 use Rattle.command_setup.specs.command_io.declared.ending.Ending.TheVariants.{Finished, ConfigRefused, Unread, OverLimit}
@@ -11,7 +11,7 @@ use Rattle.command_setup.specs.command_io.declared.ending.Ending.TheVariants.{Sc
 use Rattle.command_setup.specs.command_io.declared.limits.TheConstants.{FILE_LIMIT}
 use Rattle.command_setup.specs.command_io.declared.status.Status.TheVariants.{ReadFault}
 use Rattle.command_files.proofs.OtherLaws.{file_refused_for_memory, file_refused_since, file_rose}
-use Rattle.command_files.specs.Files.{IsFile, OtherReads, ReadsOther, RefusesFile}
+use Rattle.command_files.specs.Files.{IsFile, OtherReads, ReadsOther}
 use Rattle.ports.specs.Counts.{IsStill, Rose}
 use Rattle.ports.specs.Reading.{Content, IsHeld, StoreReport}
 use Rattle.ports.specs.declared.script.Script.{Script}
@@ -39,18 +39,6 @@ text_refused name bytes old new (ScriptRefused line) is refuses =
     for_file (old.held name) bytes (λ text. script_of text ≡ Err line) is refuses
 text_refused name bytes old new OutOfMemory is refuses = tt
 
-pub file_refused : (name : List ℕ) (old new : StoreReport) (ending : Ending) → RefusesFile name old new ending
-    → RefusesScript name old new ending
-file_refused name old new Finished refuses = refuses
-file_refused name old new (ConfigRefused refusal) refuses = refuses
-file_refused name old new (Unread unread) refuses = refuses
-file_refused name old new (OverLimit over limit) refuses = refuses
-file_refused name old new (BytesLeft count) refuses = refuses
-file_refused name old new WriteFailed refuses = refuses
-file_refused name old new LinksFailed refuses = refuses
-file_refused name old new (ScriptRefused line) refuses = absurd refuses
-file_refused name old new OutOfMemory refuses = refuses
-
 refused_read : (old new : Option (List StoreRead)) (name text : List ℕ) (ending : Ending) → RefusesText text ending
     → ReadMore (good_read name ∷ []) old new
     → OtherReads name old new ending
@@ -74,18 +62,6 @@ text_read old new name text (Ok links) refuses grew = grew
 text_read old new name text (Err ending) refuses grew = refused_read old new name text ending refuses grew
 
 -- ---- there is no script
-
-pub script_not_complete : (name : List ℕ) (old new : StoreReport) (ending : Ending) → RefusesScript name old new ending
-    → IsComplete ending → ⊥
-script_not_complete name old new Finished refuses complete = refuses
-script_not_complete name old new (ConfigRefused refusal) refuses complete = complete
-script_not_complete name old new (Unread unread) refuses complete = complete
-script_not_complete name old new (OverLimit over limit) refuses complete = complete
-script_not_complete name old new (BytesLeft count) refuses complete = refuses
-script_not_complete name old new WriteFailed refuses complete = complete
-script_not_complete name old new LinksFailed refuses complete = complete
-script_not_complete name old new (ScriptRefused line) refuses complete = complete
-script_not_complete name old new OutOfMemory refuses complete = complete
 
 pub script_refused_since : (name : List ℕ) (old mid new : StoreReport) (ending : Ending) → mid.faults ≡ old.faults
     → old.taken ≤ mid.taken

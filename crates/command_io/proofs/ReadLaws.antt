@@ -1,7 +1,7 @@
 -- What a command read, from what one read after another answered.
-use Rattle.std.proofs.Common.{◌≡◌, ℕ, suc, List, [], ◌∷◌, length, take, refl, ap, ◌∙◌}
+use Rattle.std.proofs.Common.{ℕ, suc, List, [], ◌∷◌, length, refl, ap, ◌∙◌}
 use Rattle.std.specs.Borrow.{Bor}
-use Rattle.std.specs.Prelude.{Err, Option, map}
+use Rattle.std.specs.Prelude.{Err, Option}
 use Rattle.ports.specs.declared.store.StoreRead.{StoreRead}
 use Rattle.command_io.specs.declared.ending.Ending.{Ending}
 use Rattle.command_io.specs.declared.ending.Ending.TheVariants.{Finished, ConfigRefused, Unread, OverLimit, BytesLeft}
@@ -12,7 +12,7 @@ use Rattle.config_terms.specs.declared.fault.ConfigFault.TheVariants.{Refused, M
 use Rattle.command_io.specs.declared.read.FileFault.TheVariants as file
 use Rattle.command_io.specs.Endings.{HaveFailed, IsReadOnce, ReadsFiles}
 use Rattle.command_io.specs.Fetches.{ending_of_fetch, fetch_reads}
-use Rattle.command_io.specs.Files.{LastFailed, ReadMore, bad_read, good_read, read_name}
+use Rattle.command_io.specs.Files.{LastFailed, ReadMore, bad_read, good_read}
 use Rattle.command_io.proofs.Sinks.{appended_twice}
 
 -- one good read, of the only file
@@ -43,25 +43,6 @@ pub read_first : (C : ℕ → Type 0) (old new : Option (List StoreRead)) (name 
     → HaveFailed ending (good_read name ∷ []) → ReadsFiles (name ∷ (other ∷ [])) C old new ending
 read_first C old new name other ending grew counted failed =
     record { made = good_read name ∷ []; grew = grew; named = refl; counted = counted; failed = failed }
-
--- the names of reads that are the first of one file are the first of it and another
-first_of_more : {A : Type 0} (made : List StoreRead) (f : StoreRead → A) (a b : A)
-    → map f made ≡ take (length made) (a ∷ []) → map f made ≡ take (length made) (a ∷ (b ∷ []))
-first_of_more [] f a b named = refl
-first_of_more (read ∷ []) f a b named = named
-first_of_more (read ∷ (next ∷ made)) f a b named = absurd cc
-
--- what was read of the only file was read as the first of two
-pub reads_first : (C D : ℕ → Type 0) (old new : Option (List StoreRead)) (name other : List ℕ) (ending : Ending)
-    → ((count : ℕ) → C count → D count)
-    → ReadsFiles (name ∷ []) C old new ending → ReadsFiles (name ∷ (other ∷ [])) D old new ending
-reads_first C D old new name other ending more reads = record {
-  made = reads.made;
-  grew = reads.grew;
-  named = first_of_more reads.made read_name name other reads.named;
-  counted = more (length reads.made) reads.counted;
-  failed = reads.failed;
-}
 
 last_failed_after : (name : List ℕ) (made : List StoreRead) → LastFailed made → LastFailed (good_read name ∷ made)
 last_failed_after name [] failed = absurd failed

@@ -3,25 +3,16 @@ use Rattle.std.proofs.Common.{◌≡◌, ℕ, zero, suc, ◌+◌, ◌<◌, ◌�
 use Rattle.std.proofs.Common.{get_or, refl, ap, sym, ◌∙◌, append-nil, append_assoc, arith}
 use Rattle.std.specs.Borrow.{Bor}
 use Rattle.std.specs.Option.{option_map}
-use Rattle.std.specs.Prelude.{Option, Some, None, Result, Ok, Err, OnOk, OnErr}
-use Rattle.std.proofs.Math.Seq.{take-length, take-append_seam, take-append-add}
+use Rattle.std.specs.Prelude.{Option, Some, None, Result, Ok, Err, OnErr}
+use Rattle.std.proofs.Math.Seq.{take-append_seam, take-append-add}
 use Rattle.std.proofs.lemmas.List.{take-append-le, take_all}
 use Rattle.command_io.specs.Lines.{joined}
 use Rattle.ports.specs.Writing.{Got, GotPrefix}
-
--- a put that may have failed gave a prefix
-pub front_of_put : {E U : Type 0} (r : Result U E) (old new : Option (List ℕ)) (bytes : List ℕ)
-    → OnOk r (Got old bytes new) → OnErr r (GotPrefix old bytes new) → GotPrefix old bytes new
-front_of_put (Ok u) old new bytes ok err = (length bytes, rw take-length ok)
-front_of_put (Err e) old new bytes ok err = err
 
 -- a sink that was not put to got nothing, and an empty prefix
 pub got_nothing : (old : Option (List ℕ)) → Got old [] old
 got_nothing None = refl
 got_nothing (Some text) = ap Some (sym (append-nil text))
-
-pub front_of_nothing : (old : Option (List ℕ)) (bytes : List ℕ) → GotPrefix old bytes old
-front_of_nothing old bytes = (0, got_nothing old)
 
 pub appended_twice : {X : Type 0} (old : Option (List X)) (xs ys : List X)
     → option_map (λ texts. texts ++ ys) (option_map (λ texts. texts ++ xs) old)

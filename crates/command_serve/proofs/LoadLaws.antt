@@ -1,11 +1,9 @@
 -- What `load` promises, from what its parts say.
-use Rattle.std.proofs.Common.{◌≡◌, ℕ, ◌≤◌, List, [], ◌∷◌, length, refl, sym, subst, inl, inr, arith}
-use Rattle.std.specs.Prelude.{Option}
+use Rattle.std.proofs.Common.{◌≡◌, ℕ, ◌≤◌, List, length, sym, subst, inl, inr, arith}
 use Rattle.command_setup.specs.hub_meaning.Verdicts.{PatternsReport}
 use Rattle.command_setup.specs.hub_run.declared.setup.Setup.{Setup}
 use Rattle.ports.specs.Counts.{IsStill, Rose}
 use Rattle.ports.specs.Reading.{IsHeld}
-use Rattle.ports.specs.declared.store.StoreRead.{StoreRead}
 use Rattle.command_setup.specs.sexp_config.declared.config.Config.{Config}
 use Rattle.command_setup.specs.sexp_config.Config.{IsConfigOf}
 use Rattle.command_setup.specs.command_io.declared.ending.Ending.{Ending}
@@ -14,11 +12,9 @@ use Rattle.command_setup.specs.command_io.declared.ending.Ending.TheVariants.{Ov
 use Rattle.command_setup.specs.command_io.declared.ending.Ending.TheVariants.{LinksFailed, ScriptRefused, OutOfMemory}
 use Rattle.command_setup.specs.command_io.declared.limits.TheConstants.{CONFIG_LIMIT}
 use Rattle.command_setup.specs.command_io.declared.status.Status.TheVariants.{ReadFault, SinkFault, LinkFault}
-use Rattle.command_setup.specs.command_io.Endings.{IsComplete, IsDoneOrMemory, IsReadOnce, ReadsFiles, status_of}
-use Rattle.command_setup.specs.command_io.Files.{ReadMore, good_read}
+use Rattle.command_setup.specs.command_io.Endings.{IsDoneOrMemory, status_of}
 use Rattle.ports.specs.Writing.{SinkReport}
 use Rattle.command_setup.specs.command_io.Reports.{Reports as Reporting}
-use Rattle.command_setup.proofs.CommandIoReadLaws.{read_alone}
 use Rattle.command_setup.proofs.SetupLaws.{refused_for_memory, refused_not_linked, refused_not_written, refused_rose}
 use Rattle.command_serve.specs.Loads.{LoadEnds, RunEnds, WritesSummary}
 use Rattle.command_serve.specs.declared.summary.Summary.{Summary}
@@ -51,31 +47,6 @@ ends_after_run setup count start patterns patterns' forks forks' out out' ending
   | inl cut ↦ subst (λ e. AfterRun out out' e) (sym cut.0) tt
   | inr played ↦ written_after played.0 out out' ending played.2
 ]
-
-pub reads_after_run : (old new : Option (List StoreRead)) (name : List ℕ) (out out' : SinkReport) (ending : Ending)
-    → AfterRun out out' ending
-    → ReadMore (good_read name ∷ []) old new → ReadsFiles (name ∷ []) (IsReadOnce ending) old new ending
-reads_after_run old new name out out' Finished after grew = read_alone _ old new name _ grew refl (refl, tt)
-reads_after_run old new name out out' (ConfigRefused refusal) after grew = absurd after
-reads_after_run old new name out out' (Unread unread) after grew = absurd after
-reads_after_run old new name out out' (OverLimit over limit) after grew = absurd after
-reads_after_run old new name out out' (BytesLeft count) after grew = absurd after
-reads_after_run old new name out out' WriteFailed after grew = read_alone _ old new name _ grew refl (refl, tt)
-reads_after_run old new name out out' LinksFailed after grew = absurd after
-reads_after_run old new name out out' (ScriptRefused line) after grew = absurd after
-reads_after_run old new name out out' OutOfMemory after grew = read_alone _ old new name _ grew tt (refl, tt)
-
-pub quiet_after_run : (out out' : SinkReport) (ending : Ending) → AfterRun out out' ending → IsComplete ending
-    → out'.faults ≡ out.faults
-quiet_after_run out out' Finished after complete = after
-quiet_after_run out out' (ConfigRefused refusal) after complete = absurd after
-quiet_after_run out out' (Unread unread) after complete = absurd after
-quiet_after_run out out' (OverLimit over limit) after complete = absurd after
-quiet_after_run out out' (BytesLeft count) after complete = absurd after
-quiet_after_run out out' WriteFailed after complete = absurd complete
-quiet_after_run out out' LinksFailed after complete = absurd after
-quiet_after_run out out' (ScriptRefused line) after complete = absurd after
-quiet_after_run out out' OutOfMemory after complete = absurd complete
 
 not_read_after_run : (out out' : SinkReport) (ending : Ending) → AfterRun out out' ending → status_of ending ≡ ReadFault
     → ⊥

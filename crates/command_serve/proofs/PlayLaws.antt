@@ -1,6 +1,6 @@
 -- What a run over a load comes to, from what its parts say.
 use Rattle.std.proofs.Common.{◌≡◌, ℕ, zero, suc, ◌+◌, List, [], ◌++◌, length, refl, ap, ◌∙◌, subst, inl, arith}
-use Rattle.std.specs.Prelude.{min, Some, Ok, Err}
+use Rattle.std.specs.Prelude.{min, Some, Ok}
 use Rattle.command_setup.specs.conn_core.Hub.{core_of}
 use Rattle.command_setup.specs.conn_core.Turning.{CountedPuts, puts_after}
 use Rattle.command_setup.specs.conn_core.declared.hub.Hub.{Hub}
@@ -11,8 +11,6 @@ use Rattle.command_setup.specs.hub_meaning.Runs.{state_after}
 use Rattle.command_setup.specs.hub_meaning.Verdicts.{PatternsReport}
 use Rattle.command_setup.specs.hub_run.Runs.{AddsRun, Finishes, RunsTo, config_at}
 use Rattle.command_setup.specs.hub_run.Taken.{steps_of}
-use Rattle.command_setup.specs.hub_run.declared.fault.RunFault.{RunFault}
-use Rattle.command_setup.specs.hub_run.declared.fault.RunFault.TheVariants.{Memory}
 use Rattle.command_setup.specs.hub_run.declared.setup.Setup.{Setup}
 use Rattle.index_log.specs.Live.{live_events}
 use Rattle.load_links.specs.Load.{load_script}
@@ -104,21 +102,6 @@ is_played setup count start patterns patterns' forks forks' lines replies live h
           (grown_from_none links.log links'.log adds.run begins adds.grew.log))
           (subst (λ c. IsLive c live) of_hub lives);
     }
-
-pub is_cut_off : (setup : Setup) (count start : ℕ) (patterns patterns' : PatternsReport) (forks forks' lines : ℕ)
-    (fault : RunFault)
-    (links links' : ScriptedCalls) → fault ≡ Memory → links.log ≡ [] → links.script ≡ load_script count start
-    → AddsRun (script_report links) (script_report links')
-    (RunsTo setup greatest (counted patterns forks 0) (counted patterns' forks' lines) (Err fault))
-    → IsCutOff setup count start patterns patterns' forks forks'
-is_cut_off setup count start patterns patterns' forks forks' lines fault links links' memory begins is adds = record {
-  run = adds.run;
-  lines = lines;
-  scripted = scripted (load_script count start) links links' adds.run begins is adds.grew;
-  ran =
-      subst (λ f. RunsTo setup greatest (counted patterns forks 0) (counted patterns' forks' lines) (Err f) adds.run)
-      memory adds.holds;
-}
 
 -- nothing was done
 pub not_begun : (setup : Setup) (count start : ℕ) (patterns : PatternsReport) (forks : ℕ)

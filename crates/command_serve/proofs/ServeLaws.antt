@@ -1,13 +1,12 @@
 -- What `serve` promises, from what its parts say.
-use Rattle.std.proofs.Common.{◌≡◌, ◌≢◌, ℕ, ◌≤◌, List, [], ◌∷◌, length, refl, inl, inr, arith}
-use Rattle.std.specs.Prelude.{Option, Result, Ok, Err}
+use Rattle.std.proofs.Common.{◌≡◌, ◌≢◌, ℕ, ◌≤◌, List, length, refl, inr, arith}
+use Rattle.std.specs.Prelude.{Result, Ok, Err}
 use Rattle.command_setup.specs.conn_core.declared.hub.Hub.{Hub}
 use Rattle.command_setup.specs.hub_run.declared.fault.RunFault.{RunFault}
 use Rattle.command_setup.specs.hub_run.declared.fault.RunFault.TheVariants.{Links, Sink, Memory}
 use Rattle.command_setup.specs.hub_run.declared.setup.Setup.{Setup}
 use Rattle.ports.specs.Counts.{IsStill, Rose}
 use Rattle.ports.specs.Reading.{IsHeld}
-use Rattle.ports.specs.declared.store.StoreRead.{StoreRead}
 use Rattle.command_setup.specs.sexp_config.declared.config.Config.{Config}
 use Rattle.command_setup.specs.sexp_config.Config.{IsConfigOf}
 use Rattle.command_setup.specs.command_io.declared.ending.Ending.{Ending}
@@ -16,14 +15,12 @@ use Rattle.command_setup.specs.command_io.declared.ending.Ending.TheVariants.{Ov
 use Rattle.command_setup.specs.command_io.declared.ending.Ending.TheVariants.{LinksFailed, ScriptRefused, OutOfMemory}
 use Rattle.command_setup.specs.command_io.declared.limits.TheConstants.{CONFIG_LIMIT}
 use Rattle.command_setup.specs.command_io.declared.status.Status.TheVariants.{ReadFault, SinkFault, LinkFault}
-use Rattle.command_setup.specs.command_io.Endings.{HasNoConfig, IsComplete, IsDoneOrMemory, IsReadOnce, IsRefusal}
-use Rattle.command_setup.specs.command_io.Endings.{ReadsFiles, status_of}
-use Rattle.command_setup.specs.command_io.Files.{ReadMore, good_read}
-use Rattle.command_setup.specs.command_io.Reports.{IsIdle, Reports as Reporting}
-use Rattle.command_setup.proofs.CommandIoReadLaws.{read_alone}
+use Rattle.command_setup.specs.command_io.Endings.{HasNoConfig, IsDoneOrMemory}
+use Rattle.command_setup.specs.command_io.Endings.{status_of}
+use Rattle.command_setup.specs.command_io.Reports.{Reports as Reporting}
 use Rattle.command_setup.specs.command_io.Accepting.{RefusesSetup}
 use Rattle.command_setup.specs.Setups.{SetsUp}
-use Rattle.command_setup.proofs.FaultLaws.{cut_has_config, cut_not_complete, cut_refuses_nothing}
+use Rattle.command_setup.proofs.FaultLaws.{cut_has_config}
 use Rattle.command_setup.proofs.SetupLaws.{refused_for_memory, refused_rose}
 use Rattle.command_serve.specs.Serves.{RanOn, ServeEnds, ending_of_run}
 
@@ -47,41 +44,7 @@ pub run_has_config : (ran : Result Hub RunFault) → HasNoConfig (ending_of_run 
 run_has_config (Ok hub) refused = refused
 run_has_config (Err fault) refused = cut_has_config fault refused
 
-pub served_reads : (old new : Option (List StoreRead)) (name : List ℕ) (ran : Result Hub RunFault)
-    → ReadMore (good_read name ∷ []) old new
-    → ReadsFiles (name ∷ []) (IsReadOnce (ending_of_run ran)) old new (ending_of_run ran)
-served_reads old new name (Ok hub) grew = read_alone _ old new name _ grew refl (refl, tt)
-served_reads old new name (Err Links) grew = read_alone _ old new name _ grew refl (refl, tt)
-served_reads old new name (Err Sink) grew = read_alone _ old new name _ grew refl (refl, tt)
-served_reads old new name (Err Memory) grew = read_alone _ old new name _ grew tt (refl, tt)
-
--- a run that went to its last turn met no fault
-pub no_links_fault : (ran : Result Hub RunFault) → IsComplete (ending_of_run ran) → ran ≡ Err Links → ⊥
-no_links_fault (Ok hub) complete e = cc
-no_links_fault (Err fault) complete e = cut_not_complete fault complete
-
-pub no_sink_fault : (ran : Result Hub RunFault) → IsComplete (ending_of_run ran) → ran ≡ Err Sink → ⊥
-no_sink_fault (Ok hub) complete e = cc
-no_sink_fault (Err fault) complete e = cut_not_complete fault complete
-
-pub run_refuses_nothing : (ran : Result Hub RunFault) → IsRefusal (status_of (ending_of_run ran)) → ⊥
-run_refuses_nothing (Ok hub) refused = refused
-run_refuses_nothing (Err fault) refused = cut_refuses_nothing fault refused
-
 -- ---- where there is no configuration
-
-pub not_served : (config : List ℕ) (turns : ℕ) (old new : Reporting) (ending : Ending)
-    → RefusesSetup config old.store new.store old.patterns new.patterns ending
-    → IsIdle old new → ServeEnds config turns old new ending
-not_served config turns old new Finished refuses idle = absurd refuses
-not_served config turns old new (ConfigRefused refusal) refuses idle = (refuses, idle)
-not_served config turns old new (Unread unread) refuses idle = (refuses, idle)
-not_served config turns old new (OverLimit over limit) refuses idle = (refuses, idle)
-not_served config turns old new (BytesLeft count) refuses idle = (refuses, idle)
-not_served config turns old new WriteFailed refuses idle = absurd refuses
-not_served config turns old new LinksFailed refuses idle = absurd refuses
-not_served config turns old new (ScriptRefused line) refuses idle = (refuses, idle)
-not_served config turns old new OutOfMemory refuses idle = inl (refuses, idle)
 
 -- ---- the causes of faults
 

@@ -1,11 +1,11 @@
 -- How a call of the command ends.
-use Rattle.std.proofs.Common.{◌≡◌, ◌≢◌, ℕ, ◌+◌, ◌<◌, ◌≤◌, ◌⊎◌, List, [], ◌∷◌, ◌++◌, length, take, get_or, Option, Some}
-use Rattle.std.proofs.Common.{None, Result, Ok, Err, refl, sym, ◌∙◌, ap, subst, arith, inl, inr, append-nil}
+use Rattle.std.proofs.Common.{◌≡◌, ℕ, ◌+◌, ◌<◌, ◌⊎◌, List, [], ◌∷◌, ◌++◌, length, take, get_or, Option}
+use Rattle.std.proofs.Common.{Err, refl, sym, ◌∙◌, ap, subst, arith, inl, inr, append-nil}
 use Rattle.std.proofs.lemmas.Grind.{flat_map-append}
 use Rattle.std.specs.Borrow.{Bor}
 use Rattle.std.proofs.lemmas.List.{take_more}
 use Rattle.command_io.proofs.EndingLaws.{not_over, reported_of}
-use Rattle.command_io.specs.Endings.{GotLineOf, IsRefusalOrMemory, Says, status_of}
+use Rattle.command_io.specs.Endings.{Says, status_of}
 use Rattle.command_io.specs.Fetches.{ending_of_file}
 use Rattle.command_io.specs.Files.{IsFileFault, ReadMore, good_read, reads_of}
 use Rattle.command_io.specs.Reports.{Reports}
@@ -16,16 +16,14 @@ use Rattle.command_io.specs.declared.status.Status.{Status}
 use Rattle.command_io.specs.declared.status.Status.TheVariants.{Done, Usage, Config, ReadFault, SinkFault, LinkFault}
 use Rattle.command_io.specs.declared.status.Status.TheVariants.{Memory, Script, Truncated, TooLong, Lines, Tests}
 use Rattle.command_io.specs.declared.status.Status.TheVariants.{Verdict, Unanswered, BadReply, Journal, DiskFault}
-use Rattle.graphite_lines.specs.Frames.{AreReadBack, FramesAreReadBack, accepted, frames_in, refused_lines}
-use Rattle.graphite_lines.specs.Lines.{lines_of}
+use Rattle.graphite_lines.specs.Frames.{FramesAreReadBack, frames_in, refused_lines}
 use Rattle.graphite_lines.specs.declared.bad.BadLine.{BadLine}
 use Rattle.ports.specs.Counts.{IsStill, Rose}
-use Rattle.ports.specs.Reading.{IsHeld}
 use Rattle.ports.specs.Writing.{SinkReport}
 use Rattle.ports.specs.declared.store.StoreRead.{StoreRead}
-use Rattle.command_texts.specs.Converts.{ConvertCompletes, ConvertEnds, ConvertsText, HasConverted, IsConverted}
-use Rattle.command_texts.specs.Converts.{IsText, ReadsOnce, WritesFrames, refused_line, refused_text}
-use Rattle.command_texts.specs.Writing.{Writes, WritesAll, WritesSome}
+use Rattle.command_texts.specs.Converts.{ConvertCompletes, ConvertEnds, ConvertsText, IsConverted}
+use Rattle.command_texts.specs.Converts.{IsText, ReadsOnce, refused_line, refused_text}
+use Rattle.command_texts.specs.Writing.{Writes}
 
 -- ---- the lines of refused lines
 
@@ -168,20 +166,6 @@ pub sink_fault : (host_part : Option ℕ) (text : List ℕ) (out out' err err' :
     → Rose out.faults out'.faults ⊎ Rose err.faults err'.faults
 sink_fault host_part text out out' err err' (inl cut) = inl cut.0.fault
 sink_fault host_part text out out' err err' (inr cut) = inr cut.2.fault
-
-pub no_link_fault : (host_part : Option ℕ) (text : List ℕ) (out out' err err' : SinkReport) (status : Status)
-    → ConvertsText host_part text out out' err err' status → status ≡ LinkFault → ⊥
-no_link_fault host_part text out out' err err' status ends e =
-    let P : Status → Type 0 = λ s. ConvertsText host_part text out out' err err' s in
-    let none : ⊥ = subst P e ends in
-    none
-
-pub no_read_fault : (host_part : Option ℕ) (text : List ℕ) (out out' err err' : SinkReport) (status : Status)
-    → ConvertsText host_part text out out' err err' status → status ≡ ReadFault → ⊥
-no_read_fault host_part text out out' err err' status ends e =
-    let P : Status → Type 0 = λ s. ConvertsText host_part text out out' err err' s in
-    let none : ⊥ = subst P e ends in
-    none
 
 pub convert_complete : (name : List ℕ) (host_part : Option ℕ) (old new : Reports) (status : Status)
     → ConvertEnds name host_part old new status

@@ -1,16 +1,15 @@
 -- The links that are not closed, along a log.
 use Rattle.std.proofs.Common.{◌≡◌, ◌≢◌, ℕ, ◌+◌, ◌<◌, ◌≤◌, ◌==◌, ◌⊎◌, inl, inr, Bool, true, false, not, ◌||◌, List, []}
-use Rattle.std.proofs.Common.{◌∷◌, ◌++◌, length, fold, set, refl, ap, sym, ◌∙◌, subst, arith, IsTrue}
+use Rattle.std.proofs.Common.{◌∷◌, ◌++◌, length, fold, refl, ap, sym, ◌∙◌, subst, arith, IsTrue}
 use Rattle.std.specs.Prelude.{Option, Some, None}
 use Rattle.std.specs.List.{list_any, remove}
 use Rattle.std.proofs.lemmas.Bool.{eqb-true, eq-eqb, ne_eqb}
 use Rattle.std.proofs.lemmas.List.Edits.{length-remove}
-use Rattle.std.proofs.lemmas.List.{length-set}
 use Rattle.std.proofs.lemmas.List.Sums.{fold-append}
 use Rattle.std.proofs.lemmas.Map.Views.{any-filter_same}
 use Rattle.hub_link.specs.Sending.{AreSendsTo}
 use Rattle.conn_core.specs.Kept.{HasNoNumber, number_at}
-use Rattle.conn_core.proofs.Numbers.{length_more, number_above, number_before, number_below, number_last, number_set}
+use Rattle.conn_core.proofs.Numbers.{number_above, number_below}
 use Rattle.ports.specs.declared.entry.Entry.{Entry}
 use Rattle.ports.specs.declared.entry.Entry.TheVariants.{Listen, Next, Send, Close}
 use Rattle.ports.specs.declared.links.Turn.{Turn}
@@ -18,8 +17,8 @@ use Rattle.ports.specs.declared.links.Want.{Want}
 use Rattle.ports.specs.declared.links.What.{What}
 use Rattle.ports.specs.declared.links.What.TheVariants.{Idle, Opened, Read, Ended, Broken, Room, Stopped, Failed}
 use Rattle.ports.specs.declared.links.What.TheVariants.{Memory}
-use Rattle.ports.specs.Links.{MayClose, grown, is_unclosed, unclosed, unclosed_after, unclosed_after_turn}
-use Rattle.conn_core.specs.Known.{Answered, AreUnclosed, EndsWith, IsOpenedBy, IsUnclosed}
+use Rattle.ports.specs.Links.{grown, is_unclosed, unclosed, unclosed_after, unclosed_after_turn}
+use Rattle.conn_core.specs.Known.{Answered, AreUnclosed, EndsWith, IsOpenedBy}
 
 unclosed_grown : (before run : List Entry) → unclosed (before ++ run) ≡ fold unclosed_after (unclosed before) run
 unclosed_grown before run = fold-append unclosed_after [] before run
@@ -89,31 +88,6 @@ known_removed log wants number place within only known =
       | inl less ↦ there i (omega arith) (λ same. omega arith) (number_below wants place within i less)
       | inr le ↦ there (i + 1) (omega arith) (λ same. omega arith) (number_above wants place within i le)
     ])
-
-pub known_added : (log : Option (List Entry)) (wants : List Want) (want : Want) → IsUnclosed log want.link
-    → AreUnclosed log wants → AreUnclosed log (wants ++ want ∷ [])
-known_added log wants want opened known entries is i bound =
-    let count = length_more wants want in
-    let side : (i < length wants) ⊎ (i ≡ length wants) = grind arith in
-    elim side [
-      | inl within ↦
-          subst (λ (n : ℕ). IsTrue (is_unclosed n entries)) (sym (number_before wants want i within))
-          (known entries is i within)
-      | inr last ↦
-          subst (λ (n : ℕ). IsTrue (is_unclosed n entries)) (sym (number_last wants want i last)) (opened entries is)
-    ]
-
-pub known_set : (log : Option (List Entry)) (wants : List Want) (place : ℕ) (want : Want)
-    → want.link ≡ number_at wants place → place < length wants
-    → AreUnclosed log wants → AreUnclosed log (set wants place want)
-known_set log wants place want same within known entries is i bound =
-    subst (λ (n : ℕ). IsTrue (is_unclosed n entries)) (sym (number_set wants place want same within i))
-    (known entries is i (subst (λ (n : ℕ). i < n) (length-set wants place want) bound))
-
-pub may_close_at : (log : Option (List Entry)) (wants : List Want) (number place : ℕ) → place < length wants
-    → number_at wants place ≡ number → AreUnclosed log wants → MayClose log number
-may_close_at log wants number place within same known entries is =
-    subst (λ (n : ℕ). IsTrue (is_unclosed n entries)) same (known entries is place within)
 
 -- ---- the link that a turn opened
 

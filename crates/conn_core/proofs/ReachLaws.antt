@@ -284,11 +284,6 @@ opened_by_test : (number : ℕ) (links : List Link) (t : Bool) → is_above numb
     → opened number links ≡ cond t (links ++ new_link number links ∷ []) links
 opened_by_test number links t is = ap (λ (b : Bool). cond b (links ++ new_link number links ∷ []) links) is
 
-pub changes_old : (table : Kept HubLink) (number : ℕ) → is_newer number table.newest ≡ false
-    → Changes (opened number) table table (Ok tt) []
-changes_old table number old =
-    changes_nothing (opened number) table (λ links keeps. opened_by_test number links false (keeps.free number ∙ old))
-
 above_others : (number : ℕ) (links : List Link) → is_above number links ≡ true → AreOther number links
 above_others number [] above = tt
 above_others number (link ∷ links) above =

@@ -324,24 +324,6 @@ module _ (bytes : List ℕ) (taken : ℕ) (left left' left'' : List ℕ) (core o
 
 module _ {T U : Type 0} (bytes left left' : List ℕ) (core core' : Core) (patterns patterns' : PatternsReport)
     (old new : Reported) where
-  -- all were answered, whatever came after them
-  pub answers_then : (taken : T) (result : Result U Memory)
-      → AnswersFrames bytes left left' core core' patterns patterns' old new (Ok taken)
-      → AnswersFrames bytes left left' core core' patterns patterns' old new result
-  answers_then taken (Ok other) frames = record {
-    verdicts = frames.verdicts;
-    few = frames.few;
-    reported = frames.reported;
-    possible = frames.possible;
-    answered = frames.answered;
-  }
-  answers_then taken (Err memory) frames = record {
-    verdicts = frames.verdicts;
-    few = frames.few;
-    reported = frames.reported;
-    possible = frames.possible;
-    answered = tt;
-  }
 
   -- memory ran out
   pub answers_failed : (result : Result T Memory) (memory : Memory)

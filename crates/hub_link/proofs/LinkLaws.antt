@@ -1,25 +1,22 @@
 -- How a link that a piece comes on follows what it represents.
-use Rattle.std.proofs.Common.{◌≡◌, ℕ, ◌≤◌, ◌==◌, ◌↔◌, Bool, true, false, cond, ◌&&◌, ◌||◌, List, [], ◌∷◌, ◌++◌, length}
+use Rattle.std.proofs.Common.{◌≡◌, ℕ, ◌≤◌, ◌==◌, ◌↔◌, Bool, true, false, cond, ◌||◌, List, [], ◌∷◌, ◌++◌, length}
 use Rattle.std.proofs.Common.{refl, ap, sym, ◌∙◌, subst, arith, append-nil}
-use Rattle.std.specs.Prelude.{IsTrue, Option, Result, Ok, Err, OnOk, nat_le, nat_lt}
-use Rattle.std.proofs.lemmas.Bool.{and_parts, eqb-true, leb-true, ltb-true}
+use Rattle.std.specs.Prelude.{IsTrue, Option, Result, Ok, Err, OnOk, nat_lt}
+use Rattle.std.proofs.lemmas.Bool.{eqb-true}
 use Rattle.std.proofs.lemmas.Bool.Decides.{nat_tests}
 use Rattle.msg_replies.specs.event_core.declared.arrivals.Core.{Core}
 use Rattle.msg_replies.specs.event_core.Core.{CoreConfig, config_of, now_of}
-use Rattle.framing.specs.Frames.{HasFrame, IsOversized, frames_of, length_at, partial}
-use Rattle.framing.specs.declared.TheConstants.{BODY_LIMIT}
-use Rattle.framing.proofs.FrameLaws.{oversized_has_none, partial_append, partial_of_nothing}
+use Rattle.framing.specs.Frames.{IsOversized, frames_of, partial}
+use Rattle.framing.proofs.FrameLaws.{partial_append, partial_of_nothing}
 use Rattle.list_laws.specs.declared.memory.Memory.{Memory}
-use Rattle.ports.specs.declared.links.Want.{Want}
 use Rattle.msg_replies.specs.hub_meaning.Legal.{ArePossible, AreVerdicts, MayClose, MayCloseAs, VerdictsIf}
 use Rattle.msg_replies.specs.hub_meaning.Links.{Link, broken, connected, connected_limit, ended, is_connected, is_open}
 use Rattle.msg_replies.specs.hub_meaning.Links.{is_open_stage, is_read_closed_stage, new_link, unblocked, unsent}
-use Rattle.msg_replies.specs.hub_meaning.Links.{want_of, with_stage}
+use Rattle.msg_replies.specs.hub_meaning.Links.{with_stage}
 use Rattle.msg_replies.specs.hub_meaning.declared.stage.Stage.{Stage}
 use Rattle.msg_replies.specs.hub_meaning.declared.stage.Stage.TheVariants.{Open, ReadClosed, Closing, Closed}
-use Rattle.msg_replies.specs.hub_meaning.Replies.{reply_to_oversized}
 use Rattle.msg_replies.specs.hub_meaning.Runs.{RunState, Talk, all_answered, answered, cut_off, is_oversized}
-use Rattle.msg_replies.specs.hub_meaning.Runs.{messages_in, new_frames, talk_of, with_reply}
+use Rattle.msg_replies.specs.hub_meaning.Runs.{messages_in, new_frames, talk_of}
 use Rattle.msg_replies.specs.hub_meaning.Verdicts.{Message, PatternsReport, Refusal, judged}
 use Rattle.msg_replies.proofs.HubMeaningRunLaws.{new_frames_rest}
 use Rattle.msg_replies.specs.Arriving.{Reported}
@@ -30,7 +27,7 @@ use Rattle.hub_link.specs.Answering.{Answered, AnswersFrames, IsTalk}
 use Rattle.hub_link.specs.Hearing.{HearsPiece, IsAt, KeepsRest, read_talk, talk_after}
 use Rattle.hub_link.specs.HubLink.{RepresentsChanged, RepresentsLink}
 use Rattle.hub_link.specs.hub_meaning.Links.{is_over_as}
-use Rattle.hub_link.proofs.HearLaws.{none_refused, unsent_with_reply, within_with_reply}
+use Rattle.hub_link.proofs.HearLaws.{none_refused}
 use Rattle.hub_link.proofs.SendLaws.{closes}
 
 -- messages that are answered change the replies of a link alone
@@ -215,53 +212,6 @@ module _ (piece : List ℕ) (link : HubLink) (core core' : Core) (patterns patte
 oversized_test : (bytes : List ℕ) → IsOversized bytes → is_oversized bytes ≡ true
 oversized_test bytes over = let head = over.head in let above = over.over in grind (arith, nat_tests)
 
-within_test : (bytes : List ℕ) → (IsOversized bytes → ⊥) → is_oversized bytes ≡ false
-within_test bytes other = by_case (is_oversized bytes) refl
-  where
-    by_case : (t : Bool) → is_oversized bytes ≡ t → is_oversized bytes ≡ false
-    by_case true is =
-        let both = and_parts (nat_le 4 (length bytes)) (nat_lt BODY_LIMIT (length_at bytes)) is in
-        absurd (other
-        (record { head = leb-true 4 (length bytes) both.0; over = ltb-true BODY_LIMIT (length_at bytes) both.1 }))
-    by_case false is = is
-
--- the reply to the length is appended, and no more is read
-pub cuts_off : (link link' : HubLink) (size : ℕ) → IsOversized link.input → size ≡ length_at link.input
-    → link'.number ≡ link.number → link'.stage ≡ ReadClosed → link'.blocked ≡ link.blocked
-    → link'.unsent ≡ link.unsent ++ reply_to_oversized size
-    → (meant : Link) → is_open meant ≡ true → RepresentsLink link meant → RepresentsLink link' (cut_off meant)
-cuts_off link link' size over size_is number stage blocked unsent_is meant opened is =
-    let held : partial meant.came ≡ link.input = sym (is.input opened) in
-    let test : is_oversized (partial meant.came) ≡ true = ap is_oversized held ∙ oversized_test link.input over in
-    let size_there : size ≡ length_at (partial meant.came) = size_is ∙ ap length_at (sym held) in
-    let reply : List ℕ = reply_to_oversized (length_at (partial meant.came)) in
-    let there : RepresentsLink link' (with_stage ReadClosed (with_reply reply meant)) = record {
-      number = number ∙ is.number;
-      stage = stage;
-      blocked = blocked ∙ is.blocked;
-      input = λ open_now. absurd (cc open_now);
-      unsent =
-          unsent_is ∙ ap (λ (n : ℕ). link.unsent ++ reply_to_oversized n) size_there
-          ∙ ap (λ (bs : List ℕ). bs ++ reply) is.unsent ∙ sym (unsent_with_reply reply meant is.within);
-      within = within_with_reply reply meant is.within;
-    } in
-    subst (λ (t : Bool). RepresentsLink link' (cond t (with_stage ReadClosed (with_reply reply meant)) meant))
-    (sym test) there
-
-pub cuts_nothing : (link : HubLink) → (IsOversized link.input → ⊥) → (meant : Link) → is_open meant ≡ true
-    → RepresentsLink link meant → RepresentsLink link (cut_off meant)
-cuts_nothing link other meant opened is =
-    let held : link.input ≡ partial meant.came = is.input opened in
-    let test : is_oversized (partial meant.came) ≡ false =
-    within_test (partial meant.came) (subst (λ (bs : List ℕ). IsOversized bs → ⊥) held other) in
-    subst
-    (λ (t : Bool). RepresentsLink link
-    (cond t (with_stage ReadClosed (with_reply (reply_to_oversized (length_at (partial meant.came))) meant)) meant))
-    (sym test) is
-
-pub frame_is_within : (bytes : List ℕ) → HasFrame bytes → IsOversized bytes → ⊥
-frame_is_within bytes has over = oversized_has_none bytes over has
-
 -- ---- what changes a link
 
 connected_as : (link : HubLink) (meant : Link) (t : Bool)
@@ -282,11 +232,6 @@ pub is_opened : (link : HubLink) → is_open_stage link.stage ≡ true → (mean
     → is_open meant ≡ true
 is_opened link is meant represents = open_as link meant true is represents
 
-pub stays_ended : (link : HubLink) → is_open_stage link.stage ≡ false → RepresentsChanged ended link link
-stays_ended link is meant represents =
-    subst (λ (t : Bool). RepresentsLink link (cond t (with_stage ReadClosed meant) meant))
-    (sym (open_as link meant false is represents)) represents
-
 pub ends : (link link' : HubLink) → is_open_stage link.stage ≡ true → link'.number ≡ link.number
     → link'.stage ≡ ReadClosed → link'.blocked ≡ link.blocked → link'.unsent ≡ link.unsent
     → RepresentsChanged ended link link'
@@ -302,12 +247,6 @@ ends link link' is number stage blocked unsent_is meant represents =
     subst (λ (t : Bool). RepresentsLink link' (cond t (with_stage ReadClosed meant) meant))
     (sym (open_as link meant true is represents)) there
 
-pub stays_broken : (link : HubLink) → (is_open_stage link.stage || is_read_closed_stage link.stage) ≡ false
-    → RepresentsChanged broken link link
-stays_broken link is meant represents =
-    subst (λ (t : Bool). RepresentsLink link (cond t (with_stage Closing meant) meant))
-    (sym (connected_as link meant false is represents)) represents
-
 pub breaks : (link link' : HubLink) → (is_open_stage link.stage || is_read_closed_stage link.stage) ≡ true
     → link'.number ≡ link.number → link'.stage ≡ Closing → link'.blocked ≡ link.blocked
     → link'.unsent ≡ link.unsent → RepresentsChanged broken link link'
@@ -315,12 +254,6 @@ breaks link link' is number stage blocked unsent_is meant represents =
     subst (λ (t : Bool). RepresentsLink link' (cond t (with_stage Closing meant) meant))
     (sym (connected_as link meant true is represents))
     (closes link link' number stage blocked unsent_is meant represents)
-
-pub stays_unblocked : (link : HubLink) → (is_open_stage link.stage || is_read_closed_stage link.stage) ≡ false
-    → RepresentsChanged unblocked link link
-stays_unblocked link is meant represents =
-    subst (λ (t : Bool). RepresentsLink link (cond t (record meant { blocked = false }) meant))
-    (sym (connected_as link meant false is represents)) represents
 
 pub unblocks : (link link' : HubLink) → (is_open_stage link.stage || is_read_closed_stage link.stage) ≡ true
     → link'.number ≡ link.number → link'.stage ≡ link.stage → link'.blocked ≡ false
@@ -352,21 +285,6 @@ opens link number has_room links number_is stage blocked bytes unsent_is room = 
 
 -- ---- what is wanted of a link, and whether it is to be closed
 
-pub wants_so : (link : HubLink) (meant : Link) (want : Want) → want.link ≡ link.number
-    → want.read ≡ (is_open_stage link.stage && nat_lt (length link.unsent) BODY_LIMIT)
-    → want.room ≡ nat_lt 0 (length link.unsent) → RepresentsLink link meant → want ≡ want_of meant
-wants_so link meant want number read room represents =
-    ap (λ (n : ℕ). let w : Want = record { link = n; read = want.read; room = want.room } in w)
-    (number ∙ represents.number)
-    ∙ ap (λ (t : Bool). let w : Want = record { link = meant.number; read = t; room = want.room } in w)
-    (read ∙ ap (λ (s : Stage). is_open_stage s && nat_lt (length link.unsent) BODY_LIMIT) represents.stage
-    ∙ ap (λ (bs : List ℕ). is_open meant && nat_lt (length bs) BODY_LIMIT) represents.unsent)
-    ∙ ap (λ (t : Bool).
-    let w : Want =
-    record { link = meant.number; read = is_open meant && nat_lt (length (unsent meant)) BODY_LIMIT; room = t } in
-    w)
-    (room ∙ ap (λ (bs : List ℕ). nat_lt 0 (length bs)) represents.unsent)
-
 over_as : (meant : Link) (stage : Stage) → IsTrue (is_over_as stage (length (unsent meant))) ↔ MayCloseAs meant stage
 over_as meant Open = (λ is. absurd (cc is), λ may. absurd may)
 over_as meant ReadClosed = (λ is. none_left (unsent meant) is, λ none. ap (λ (bs : List ℕ). length bs == 0) none)
@@ -384,7 +302,3 @@ tells_over link meant over is represents =
     (sym (is ∙ ap (λ (s : Stage). is_over_as s (length link.unsent)) represents.stage
     ∙ ap (λ (bs : List ℕ). is_over_as meant.stage (length bs)) represents.unsent))
     (over_as meant meant.stage)
-
-pub on_ok_three : {T E A B C D : Type 0} (r : Result T E) → (A → B → C → D) → OnOk r A → OnOk r B → OnOk r C → OnOk r D
-on_ok_three (Ok x) f a b c = f a b c
-on_ok_three (Err e) f a b c = tt

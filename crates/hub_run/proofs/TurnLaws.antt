@@ -11,7 +11,7 @@ use Rattle.ports.specs.declared.links.What.TheVariants.{Idle, Opened, Read, Ende
 use Rattle.ports.specs.declared.links.What.TheVariants.{Memory as NoMemory}
 use Rattle.ports.specs.Calls.{LinksReport}
 use Rattle.ports.proofs.CallLemmas.{calls_then}
-use Rattle.ports.specs.Links.{HasNextCause, entries_of_turn, grown, next_entries, piece_of}
+use Rattle.ports.specs.Links.{entries_of_turn, grown, next_entries, piece_of}
 use Rattle.conn_core.specs.Hub.{wants_in}
 use Rattle.conn_core.specs.Known.{Answered, AreUnclosed, EndsWith}
 use Rattle.conn_core.specs.Turning.{TurnsFrom}
@@ -21,7 +21,7 @@ use Rattle.conn_core.specs.declared.stop.Stop.TheVariants.{Memory as StopMemory}
 use Rattle.conn_core.proofs.KnownLaws.{known_next}
 use Rattle.conn_core.proofs.TurnLaws.{turn_is}
 use Rattle.hub_run.specs.Runs.{AddsRun, RunReport}
-use Rattle.hub_run.specs.Taking.{AskFails, AsksFor, DoesTurn, StopsAt, TakesTurn}
+use Rattle.hub_run.specs.Taking.{AsksFor, DoesTurn, StopsAt, TakesTurn}
 use Rattle.hub_run.specs.declared.fault.RunFault.{RunFault}
 use Rattle.hub_run.specs.declared.fault.RunFault.TheVariants.{Links, Sink, Memory}
 use Rattle.hub_run.proofs.AddsLaws.{adds_weaken}
@@ -43,25 +43,6 @@ next_as wants buf turn NoMemory not_memory = absurd (not_memory refl)
 pub next_is : (wants : List Want) (buf : List ℕ) (turn : Turn) → turn.what ≢ NoMemory
     → next_entries wants buf turn ≡ Next wants turn (piece_of turn.what buf) ∷ []
 next_is wants buf turn not_memory = next_as wants buf turn turn.what not_memory
-
-pub next_failed : (wants : List Want) (buf : List ℕ) (turn : Turn) → turn.what ≡ Failed
-    → AskFails wants (next_entries wants buf turn)
-next_failed wants buf turn is = record { turn = turn; are = ap (entries_of_turn wants buf turn) is; failed = is }
-
-pub next_memory : (wants : List Want) (buf : List ℕ) (turn : Turn) → turn.what ≡ NoMemory
-    → next_entries wants buf turn ≡ []
-next_memory wants buf turn is = ap (entries_of_turn wants buf turn) is
-
-pub next_quiet : (what : What) (old new : ℕ) → what ≢ Failed → HasNextCause old new what → new ≡ old
-next_quiet Idle old new not_failed cause = cause
-next_quiet (Opened number) old new not_failed cause = cause
-next_quiet (Read number count) old new not_failed cause = cause
-next_quiet (Ended number) old new not_failed cause = cause
-next_quiet (Broken number) old new not_failed cause = cause
-next_quiet (Room number) old new not_failed cause = cause
-next_quiet Stopped old new not_failed cause = cause
-next_quiet Failed old new not_failed cause = absurd (not_failed refl)
-next_quiet NoMemory old new not_failed cause = cause
 
 -- ---- a turn was asked for
 

@@ -1,5 +1,5 @@
 -- What a client is after what came in a turn.
-use Rattle.std.proofs.Common.{◌≡◌, ℕ, ◌+◌, ◌≤◌, ◌==◌, Bool, true, false, cond, not, ◌&&◌, ◌||◌, List, [], ◌∷◌, ◌++◌}
+use Rattle.std.proofs.Common.{◌≡◌, ℕ, ◌+◌, ◌≤◌, Bool, true, false, cond, not, ◌&&◌, ◌||◌, List, [], ◌∷◌, ◌++◌}
 use Rattle.std.proofs.Common.{length, map, drop, Option, Some, None, refl, ap, sym, ◌∙◌, subst, arith, length-append}
 use Rattle.std.specs.Prelude.{unwrap_or}
 use Rattle.std.specs.Option.{option_or}
@@ -12,7 +12,7 @@ use Rattle.ports.specs.declared.links.Turn.{Turn}
 use Rattle.riemann_msg.specs.Value.{message_of}
 use Rattle.riemann_msg.specs.declared.msg.Msg.{Msg}
 use Rattle.riemann_client.specs.Accepting.{AcceptsAll, EndsAs, HasNoneLeft}
-use Rattle.riemann_client.specs.Client.{Represents, stream_of}
+use Rattle.riemann_client.specs.Client.{Represents}
 use Rattle.ev_types.specs.Clock.{next_moment}
 use Rattle.riemann_client.specs.Exchange.{Exchange, accepted_from, begun, fault_between, first_reply_fault, heard}
 use Rattle.riemann_client.specs.Exchange.{heard_piece, is_link, is_on, is_over, is_oversized, lost, message_in}
@@ -22,7 +22,6 @@ use Rattle.riemann_client.specs.Requests.{HasAnswered, IsAsSent, Requested, sent
 use Rattle.riemann_client.specs.Turning.{Hears, Occurs}
 use Rattle.riemann_client.specs.declared.client.Client.{Client}
 use Rattle.riemann_client.specs.declared.progress.Progress.{Progress}
-use Rattle.riemann_client.specs.declared.progress.Progress.TheVariants.{More, Whole, Lost}
 use Rattle.riemann_client.proofs.AcceptLaws.{all_accepted, fault_is_no_more}
 
 held_as : (held : Held) (bytes : List ℕ) → held.bytes ≡ bytes → held.stopped ≡ false
@@ -329,44 +328,7 @@ over_as client exchange is =
     ap (λ (gone : Bool). gone || is_oversized (partial exchange.came)) (sym is.gone)
     ∙ ap (λ (held : Held). client.gone || is_oversized held.bytes) (sym is.input)
 
-pub stands_whole : (client : Client) (exchange : Exchange) → Represents client exchange
-    → ((count : ℕ) → HasAnswered client.requests count → true ≡ (count == length (frames_of client.requests.stream)))
-    → Whole ≡ standing (stream_of client) exchange
-stands_whole client exchange is test =
-    sym (ap (λ (n : ℕ). cond (n == length (frames_of (stream_of client))) Whole (cond (is_over exchange) Lost More))
-    (sym is.accepted)
-    ∙ ap (λ (t : Bool). cond t Whole (cond (is_over exchange) Lost More))
-    (sym (test (length exchange.replies) is.answered)))
-
-pub stands_unanswered : (client : Client) (exchange : Exchange) (over : Bool) → Represents client exchange
-    → ((count : ℕ) → HasAnswered client.requests count → false ≡ (count == length (frames_of client.requests.stream)))
-    → (client.gone || is_oversized client.input.bytes) ≡ over
-    → cond over Lost More ≡ standing (stream_of client) exchange
-stands_unanswered client exchange over is test over_is =
-    sym (ap (λ (n : ℕ). cond (n == length (frames_of (stream_of client))) Whole (cond (is_over exchange) Lost More))
-    (sym is.accepted)
-    ∙ ap (λ (t : Bool). cond t Whole (cond (is_over exchange) Lost More))
-    (sym (test (length exchange.replies) is.answered))
-    ∙ ap (λ (t : Bool). cond t Lost More) (over_as client exchange is ∙ over_is))
-
 -- ---- what a turn comes to
-
--- no reply of the turn is refused
-pub hears_on : (client' : Client) (stream : List ℕ) (before : Exchange) (turn : Turn) (piece : List ℕ)
-    (progress : Progress)
-    → stream_of client' ≡ stream
-    → ((exchange : Exchange) → Represents client' exchange → progress ≡ standing (stream_of client') exchange)
-    → Occurs client' (passed turn.secs before) (heard turn piece before) None
-    → Hears client' stream before (heard turn piece before) progress
-hears_on client' stream before turn piece progress same stands occurs = record {
-  is =
-      stands (heard turn piece before) (occurs.represents refl)
-      ∙ ap (λ (bytes : List ℕ). standing bytes (heard turn piece before)) same
-      ∙ ap (λ (fault : Option Progress). unwrap_or fault (standing stream (heard turn piece before))) occurs.fault_is;
-  link = occurs.link;
-  replies = occurs.replies;
-  represents = λ more. occurs.represents refl;
-}
 
 -- one is
 pub hears_fault : (client' : Client) (stream : List ℕ) (before : Exchange) (turn : Turn) (piece : List ℕ)

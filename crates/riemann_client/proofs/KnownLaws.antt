@@ -13,7 +13,7 @@ use Rattle.ports.specs.declared.links.Turn.{Turn}
 use Rattle.ports.specs.declared.links.What.{What}
 use Rattle.ports.specs.declared.links.What.TheVariants.{Idle, Opened, Read, Ended, Broken, Room, Stopped, Failed}
 use Rattle.ports.specs.declared.links.What.TheVariants.{Memory}
-use Rattle.ports.specs.Links.{MayClose, grown, is_unclosed, send_entries, unclosed, unclosed_after, unclosed_after_turn}
+use Rattle.ports.specs.Links.{MayClose, is_unclosed, send_entries, unclosed, unclosed_after, unclosed_after_turn}
 use Rattle.riemann_client.specs.Client.{Answered, EndsWith, IsUnclosed}
 use Rattle.riemann_client.specs.Exchange.{link_after}
 
@@ -33,23 +33,6 @@ send_keeps number other bytes answer entries =
     by_answer send.Later = refl
     by_answer send.Failed = refl
     by_answer send.Memory = refl
-
-may_close_after : (log : Option (List Entry)) (number other : ℕ) (bytes : List ℕ) (answer : SendAnswer)
-    → MayClose log other → MayClose (grown log (send_entries number bytes answer)) other
-may_close_after None number other bytes answer known entries is = absurd (cc is)
-may_close_after (Some log) number other bytes answer known entries is =
-    let same : log ++ send_entries number bytes answer ≡ entries = cc in
-    subst (λ (es : List Entry). IsTrue (is_unclosed other es)) same
-    (subst IsTrue (send_keeps number other bytes answer log) (known log refl))
-
-pub known_after_send : (log log' : Option (List Entry)) (link : Option ℕ) (number : ℕ) (bytes : List ℕ)
-    (answer : SendAnswer)
-    → log' ≡ grown log (send_entries number bytes answer)
-    → IsUnclosed log link → IsUnclosed log' link
-known_after_send log log' None number bytes answer grew known = tt
-known_after_send log log' (Some other) number bytes answer grew known =
-    subst (λ (l : Option (List Entry)). MayClose l other) (sym grew)
-    (may_close_after log number other bytes answer known)
 
 -- the link that a turn opened
 opened_now : (log : Option (List Entry)) (turn : Turn) (number : ℕ) → turn.what ≡ Opened number → Answered log turn

@@ -1,7 +1,7 @@
 -- What sends of a client do to the exchange.
-use Rattle.std.proofs.Common.{◌≡◌, ◌≢◌, ℕ, zero, suc, ◌+◌, ◌-◌, ◌<◌, ◌≤◌, Bool, true, false, cond, not, ◌&&◌, List, []}
+use Rattle.std.proofs.Common.{◌≡◌, ℕ, ◌+◌, ◌-◌, ◌<◌, ◌≤◌, Bool, true, false, cond, not, ◌&&◌, List, []}
 use Rattle.std.proofs.Common.{◌∷◌, ◌++◌, length, take, drop, Option, Some, None, refl, ap, sym, ◌∙◌, subst, arith}
-use Rattle.std.proofs.Common.{length-append, length-drop}
+use Rattle.std.proofs.Common.{length-append}
 use Rattle.std.specs.Prelude.{nat_lt, is_some}
 use Rattle.std.proofs.lemmas.Bool.{and_parts, ltb-true}
 use Rattle.std.proofs.lemmas.List.{length-take-le, take_all}
@@ -229,29 +229,6 @@ module _ (client client' : Client) (number : ℕ) where
       subst (λ (bs : List ℕ). Sends client client' (send_entries number bs answer)) (sym are)
       (sends_all answer may within notes)
 
-pub notes_keep : (client client' : Client) (answer : SendAnswer) → Notes answer client client'
-    → KeepsReplies client client'
-notes_keep client client' (Took count) notes = record {
-  stream = notes.stream;
-  link = ap (λ (c : Client). c.link) notes.others;
-  replies = ap (λ (c : Client). c.replies) notes.others;
-}
-notes_keep client client' Later notes = record {
-  stream = ap (λ (c : Client). c.requests.stream) notes;
-  link = ap (λ (c : Client). c.link) notes;
-  replies = ap (λ (c : Client). c.replies) notes;
-}
-notes_keep client client' Failed notes = record {
-  stream = ap (λ (c : Client). c.requests.stream) notes;
-  link = ap (λ (c : Client). c.link) notes;
-  replies = ap (λ (c : Client). c.replies) notes;
-}
-notes_keep client client' Memory notes = record {
-  stream = ap (λ (c : Client). c.requests.stream) notes;
-  link = ap (λ (c : Client). c.link) notes;
-  replies = ap (λ (c : Client). c.replies) notes;
-}
-
 -- ---- the measure of the loop that sends
 
 abbrev left_over : Client → ℕ
@@ -269,13 +246,6 @@ sendable_blocked client is =
     none true = refl
     none false = refl
 
-sendable_gone : (client : Client) → client.gone ≡ true → sendable client ≡ 0
-sendable_gone client is =
-    ap
-    (λ (t : Bool). cond (is_some (cond (not t && (not client.blocked && nat_lt 0 (left_over client))) client.link None))
-    (left_over client) 0)
-    is
-
 sendable_all : (client : Client) (number : ℕ) → link_to_send client ≡ Some number → sendable client ≡ left_over client
 sendable_all client number is = ap (λ (link : Option ℕ). cond (is_some link) (left_over client) 0) is
 
@@ -285,42 +255,3 @@ sendable_within client = by_case (is_some (link_to_send client))
     by_case : (t : Bool) → cond t (left_over client) 0 ≤ left_over client
     by_case true = omega arith
     by_case false = omega arith
-
-took_less : (client client' : Client) (number count : ℕ) → link_to_send client ≡ Some number → count ≤ left_over client
-    → NotesTaken count client client' → sendable client' < sendable client
-took_less client client' number zero may within notes =
-    let none : sendable client' ≡ 0 = sendable_blocked client' (ap (λ (c : Client). c.blocked) notes.others) in
-    let all = sendable_all client number may in
-    let can = may_send_to client number may in
-    let some = can.some in
-    omega arith
-took_less client client' number (suc n) may within notes =
-    let most = sendable_within client' in
-    let all = sendable_all client number may in
-    let before : left_over client ≡ length client.requests.stream - client.requests.taken =
-    length-drop client.requests.taken client.requests.stream in
-    let after : left_over client' ≡ length client'.requests.stream - client'.requests.taken =
-    length-drop client'.requests.taken client'.requests.stream in
-    let same : length client'.requests.stream ≡ length client.requests.stream = ap length notes.stream in
-    let more = notes.taken in
-    omega arith
-
--- fewer bytes are sendable once some were taken, or none was
-pub sends_less : (client client' : Client) (number : ℕ) (answer : SendAnswer) → link_to_send client ≡ Some number
-    → IsWithin (length (drop client.requests.taken client.requests.stream)) answer → Notes answer client client'
-    → answer ≢ Memory → sendable client' < sendable client
-sends_less client client' number (Took count) may within notes other =
-    took_less client client' number count may within notes
-sends_less client client' number Later may within notes other =
-    let none : sendable client' ≡ 0 = sendable_blocked client' (ap (λ (c : Client). c.blocked) notes) in
-    let all = sendable_all client number may in
-    let can = may_send_to client number may in
-    let some = can.some in
-    omega arith
-sends_less client client' number Failed may within notes other =
-    let none : sendable client' ≡ 0 = sendable_gone client' (ap (λ (c : Client). c.gone) notes) in
-    let all = sendable_all client number may in
-    let can = may_send_to client number may in
-    let some = can.some in
-    omega arith
-sends_less client client' number Memory may within notes other = absurd (other refl)

@@ -1,15 +1,15 @@
 -- How a turn ends.
-use Rattle.std.proofs.Common.{◌≡◌, ◌≢◌, ℕ, ◌<◌, inl, inr, Bool, true, false, cond, not, ◌&&◌, List, [], ◌∷◌, ◌++◌}
+use Rattle.std.proofs.Common.{◌≡◌, ℕ, ◌<◌, inl, inr, Bool, true, false, cond, not, ◌&&◌, List, [], ◌∷◌, ◌++◌}
 use Rattle.std.proofs.Common.{length, drop, Option, Some, None, refl, ap, sym, ◌∙◌, subst}
 use Rattle.std.specs.Prelude.{nat_lt}
 use Rattle.std.proofs.lemmas.Bool.{lt-ltb}
 use Rattle.ports.specs.declared.entry.Entry.{Entry}
 use Rattle.ports.specs.declared.links.Turn.{Turn}
 use Rattle.ports.specs.declared.links.Want.{Want}
-use Rattle.riemann_client.specs.Client.{Represents, link_of, stream_of}
-use Rattle.riemann_client.specs.Exchange.{Exchange, heard, progress_of, unsent, wants_on}
+use Rattle.riemann_client.specs.Client.{Represents, stream_of}
+use Rattle.riemann_client.specs.Exchange.{Exchange, heard, unsent, wants_on}
 use Rattle.riemann_client.specs.Sending.{IsSettled, KeepsReplies, Sends, SendsFrom, after_sends, link_to_send}
-use Rattle.riemann_client.specs.Turning.{Ends, GoesOn, GoesOnFrom, Hears, RunsOut, SettlesTo, TurnsFrom, TurnsTo}
+use Rattle.riemann_client.specs.Turning.{Ends, GoesOn, GoesOnFrom, RunsOut, SettlesTo, TurnsFrom, TurnsTo}
 use Rattle.riemann_client.specs.Turning.{closing}
 use Rattle.riemann_client.specs.declared.client.Client.{Client}
 use Rattle.riemann_client.specs.declared.progress.Progress.{Progress}
@@ -104,53 +104,9 @@ module _ (client one client' : Client) (first second : List Entry) (keeps : Keep
       subst (λ (cs : List Entry). RunsOut (stream_of client) before after cs) (sym calls)
       (record { may = there.may; none = λ other. absurd (other due) })
 
-  -- memory ran out at a send
-  pub turn_unsent : GoesOnFrom client client' Memory first
-  turn_unsent before after due is =
-      let there : SendsFrom client one first after = sends after is in
-      record { may = there.may; none = λ other. absurd (other due) }
-
 -- ---- a turn
 
-ends_as : (client' : Client) (stream : List ℕ) (before after : Exchange) (progress : Progress) (calls : List Entry)
-    → progress ≢ More → progress ≢ Memory
-    → Ends client' stream before after progress calls → TurnsTo client' stream before after progress calls
-ends_as client' stream before after More calls other alive ends = absurd (other refl)
-ends_as client' stream before after Whole calls other alive ends = ends
-ends_as client' stream before after (Unasked number) calls other alive ends = ends
-ends_as client' stream before after (Refused number place why) calls other alive ends = ends
-ends_as client' stream before after Lost calls other alive ends = inl ends
-ends_as client' stream before after Memory calls other alive ends = absurd (alive refl)
-
 module _ (client one client' : Client) (turn : Turn) (piece : List ℕ) (same : stream_of one ≡ stream_of client) where
-  -- the exchange is over, and the link was closed
-  pub turn_ends : (progress : Progress) (calls : List Entry) → progress ≢ More → progress ≢ Memory
-      → calls ≡ closing (link_of one)
-      → (progress ≢ Memory → (before : Exchange) → Represents client before
-      → Hears one (stream_of client) before (heard turn piece before) progress)
-      → TurnsFrom turn piece client one progress calls
-  turn_ends progress calls other alive closed hears before is =
-      let there = hears alive before is in
-      ends_as one (stream_of client) before (heard turn piece before) progress calls other alive
-      (record { is = there.is; calls_are = closed ∙ ap closing there.link; replies = there.replies })
-
-  -- it goes on, and requests were sent
-  pub turn_goes_on : (heard_as progress : Progress) (calls : List Entry) → heard_as ≡ More
-      → (heard_as ≢ Memory → (before : Exchange) → Represents client before
-      → Hears one (stream_of client) before (heard turn piece before) heard_as)
-      → GoesOnFrom one client' progress calls → TurnsFrom turn piece client client' progress calls
-  turn_goes_on heard_as progress calls more hears goes_on before is =
-      let alive : heard_as ≢ Memory = λ memory. absurd (cc (more, memory)) in
-      let there = hears alive before is in
-      subst (λ (stream : List ℕ). TurnsTo client' stream before (heard turn piece before) progress calls) same
-      (goes_on before (heard turn piece before)
-      (ap (λ (stream : List ℕ). progress_of stream before (heard turn piece before)) same ∙ sym there.is ∙ more)
-      (there.represents more))
-
--- memory ran out at what came
-pub turn_unheard : (client client' : Client) (turn : Turn) (piece : List ℕ)
-    → TurnsFrom turn piece client client' Memory []
-turn_unheard client client' turn piece before is = record { may = tt; none = λ other. refl }
 
 -- ---- whether it was the last turn is noted, which changes nothing else
 

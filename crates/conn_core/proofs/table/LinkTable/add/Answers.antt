@@ -1,4 +1,4 @@
-use Rattle.std.proofs.Common.{true, ◌≡◌, ◌∷◌, [], ◌++◌, List, length, ap, sym, ◌∙◌, subst, arith, ℕ}
+use Rattle.std.proofs.Common.{true, ◌≡◌, ◌∷◌, [], ◌++◌, ap, sym, subst, arith, ℕ}
 use Rattle.std.specs.Prelude.{Option, Some}
 use Rattle.std.proofs.lemmas.Grind.{common_steps}
 use Rattle.conn_core.specs.Kept.{AreOld, AreRising, Kept, is_newer}

@@ -1,7 +1,6 @@
-use Rattle.std.proofs.Common.{◌≡◌, ◌<◌, ℕ, List, ap, sym, subst, arith}
+use Rattle.std.proofs.Common.{ℕ, ap, subst}
 use Rattle.std.specs.Prelude.{Option, Some}
 use Rattle.conn_core.specs.Kept.{AreOld, Kept}
-use Rattle.ports.specs.declared.links.Want.{Want}
 use Rattle.conn_core.proofs.Numbers.{new_is_absent}
 use Rattle.conn_core.proofs.table.LinkTable.is_newer.Goals as goal
 
