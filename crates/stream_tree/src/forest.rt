@@ -18,35 +18,20 @@ use stream_step::State;
 
 /// The nodes of streams, in their order. There is one for each of the first streams; those after them are bare.
 #[cycle(forest)]
+#[derive(Drop)]
 pub(crate) struct Forest {
     pub(crate) nodes: Vec<Node>,
 }
 
-impl Drop for Forest {
-    fn drop(self) {
-        let Forest { nodes: _nodes } = self;
-    }
-}
-
 /// What a stream keeps between entries, and what the streams below it keep.
 #[cycle(forest)]
+#[derive(Drop)]
 pub(crate) struct Node {
     pub(crate) state: State,
     pub(crate) children: Forest,
     pub(crate) otherwise: Forest,
     /// Of a `by`, which has no nodes in `children` and `otherwise`: a copy of its children for each key.
     pub(crate) forks: ForkTable<Forest>,
-}
-
-impl Drop for Node {
-    fn drop(self) {
-        let Node {
-            state: _state,
-            children: _children,
-            otherwise: _otherwise,
-            forks: _forks,
-        } = self;
-    }
 }
 
 /// Whether a stream of the kind has forks.
