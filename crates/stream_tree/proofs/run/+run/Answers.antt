@@ -176,28 +176,6 @@ run_emissions-loop-emission-preserved-in_ok-run_branch g t c =
           c.in-Some.ensures.steps.0);
     }
 
-pub run_emissions-loop-emission-preserved-in_ok-run_branch-2 :
-    goal.run_emissions-loop-emission-preserved-in_ok-run_branch-2
-run_emissions-loop-emission-preserved-in_ok-run_branch-2 g t c =
-    record {
-      ran = λ first forks.
-          one_more_emission c.args.context.now.patterns.now c.args.context.now.start c.args.context.now.moment
-          (opened c.args.stream.now) first c.args.out.now c.loop-emission.out c.run_branch.new.out c.args.steps.now
-          c.loop-emission.steps c.run_branch.new.steps
-          (below_of c.args.children.now c.args.otherwise.now forks)
-          (below_of c.loop-emission.children c.loop-emission.otherwise forks)
-          (below_of c.run_branch.new.children c.run_branch.new.otherwise forks)
-          c.loop-emission.yielded c.in-Some.emission (branch_meant c.branch_of.result) c.branch_of.ensures
-          (c.loop-emission.invariant.ran first forks) (c.in_ok-run_branch.ensures.runs first forks);
-      prefix =
-          extends_then c.args.out.now c.loop-emission.out c.run_branch.new.out c.loop-emission.invariant.prefix
-          c.run_branch.ensures.prefix;
-      left =
-          sym (rest_more c.loop-emission.yielded (into_iter_items c.loop-emission.emission-iterator)
-          (into_iter_items c.next.new.self) c.args.emissions c.in-Some.emission c.loop-emission.invariant.left
-          c.in-Some.ensures.steps.0);
-    }
-
 pub run_emissions-returns-in_err-run_branch-clause-stops : goal.run_emissions-returns-in_err-run_branch-clause-stops
 run_emissions-returns-in_err-run_branch-clause-stops g t c =
     on_error c.from_residual.result (λ first forks.
