@@ -7,7 +7,7 @@ ghost use Rattle.ev_types.specs.Interval.{IsInterval};
 ghost use Rattle.command_files.specs.Files.{OtherReads};
 ghost use Rattle.ports.specs.Counts.{Rose};
 
-use crate::read_other;
+use crate::read::read_other;
 use crate::serve::serve_bytes;
 use command_setup::command_io::{Ending, Status, report};
 use command_setup::fetch_setup;

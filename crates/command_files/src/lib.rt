@@ -1,4 +1,4 @@
-//! The command that plays a script to a server.
+//! The commands that run a server over a file: `replay` plays a script to it, and `feed` feeds it the file's bytes.
 #![tactic(auto)]
 
 mod feed;
@@ -10,6 +10,4 @@ mod run;
 mod serve;
 
 pub use feed::feed;
-pub use read::read_other;
 pub use replay::replay;
-pub use run::run_script;

@@ -12,7 +12,8 @@ ghost use Rattle.command_files.specs.Scripts.{IsScript, RefusesScript, RefusesTe
 ghost use Rattle.ev_types.specs.Interval.{IsInterval};
 ghost use Rattle.script_text.specs.Scripts.{script_of};
 
-use crate::{read_other, run_script};
+use crate::read::read_other;
+use crate::run::run_script;
 use command_setup::command_io::Ending;
 use command_setup::ending_of_fault;
 use command_setup::hub_run::Setup;

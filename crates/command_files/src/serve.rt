@@ -11,7 +11,7 @@ ghost use Rattle.framing.specs.Frames.{partial};
 ghost use Rattle.ports.specs.Pieces.{feed_script};
 
 use crate::left::bytes_left;
-use crate::run_script;
+use crate::run::run_script;
 use command_setup::command_io::{Ending, put_all};
 use command_setup::ending_of_fault;
 use command_setup::hub_run::{Setup, feeds_are_answered};

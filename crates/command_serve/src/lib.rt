@@ -1,4 +1,5 @@
-//! The command `serve CONFIG`: it runs a server over the links that it was handed.
+//! The commands that run a server over links: `serve` over those that it was handed, and `load` over a generated load,
+//! of which it writes what it came to.
 #![tactic(auto)]
 
 mod limits;

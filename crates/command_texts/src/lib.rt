@@ -1,4 +1,5 @@
-//! The command `check CONFIG`: it reads a configuration, builds its patterns, and writes its canonical text.
+//! The commands that write what a text comes to, and run no server: `check CONFIG` reads a configuration, builds its
+//! patterns, and writes its canonical text; `graphite FILE` writes the frames of Graphite's plain text.
 #![tactic(auto)]
 
 mod check;
