@@ -1,4 +1,4 @@
-//! One run of a server: it listens, and then takes turn after turn.
+//! One run of a server: it listens, and then takes turn after turn. And laws of runs, whose functions do not run.
 #![tactic(auto)]
 
 mod fault;

@@ -1,4 +1,5 @@
-//! Reading scripts: texts that say what happens on links. `docs/SCRIPTS.md` has their lines.
+//! Reading scripts: texts that say what happens on links. `docs/SCRIPTS.md` has their lines. And what each link was sent,
+//! as lines after a replay.
 #![tactic(auto)]
 
 mod cut;

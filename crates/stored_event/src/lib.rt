@@ -1,4 +1,4 @@
-//! Events in an index: each owns its parts, or is kept as its bytes.
+//! Events in an index: each owns its parts, or is kept as its bytes. And their keys, lent from where they lie.
 #![tactic(auto)]
 
 mod bytes;
