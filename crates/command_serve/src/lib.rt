@@ -3,12 +3,12 @@
 #![tactic(auto)]
 
 mod limits;
-mod load;
+mod load_command;
 mod play;
-mod serve;
+mod serve_command;
 mod summary;
 
 pub use limits::limits_are_numbers;
-pub use load::load;
+pub use load_command::load;
 pub use play::EVENT_LIMIT;
-pub use serve::serve;
+pub use serve_command::serve;

@@ -1,19 +1,16 @@
 -- A text that a server is run with, or that is refused.
-use Rattle.std.proofs.Common.{◌≡◌, ℕ, ◌≤◌, List, length, refl}
+use Rattle.std.proofs.Common.{◌≡◌, ℕ, List, refl}
 use Rattle.std.specs.Prelude.{Result, Ok, Err, IfErr, IfOk}
 use Rattle.hub_run.specs.declared.setup.Setup.{Setup}
 use Rattle.hub_run.specs.hub_meaning.Verdicts.{PatternsReport}
-use Rattle.ports.specs.Reading.{Content}
 use Rattle.command_io.specs.Configs.{ReadsAs}
 use Rattle.command_io.specs.Fetches.{ending_of_config}
-use Rattle.command_io.specs.Files.{ForHeld}
 use Rattle.command_io.specs.config_terms.declared.fault.ConfigFault.{ConfigFault}
 use Rattle.command_io.specs.config_terms.declared.fault.ConfigFault.TheVariants as cause
 use Rattle.command_io.specs.config_terms.declared.fault.ConfigWhy.{ConfigWhy}
 use Rattle.command_io.specs.declared.ending.ConfigRefusal.TheVariants.{Refused, Pattern}
 use Rattle.command_io.specs.declared.ending.Ending.{Ending}
 use Rattle.command_io.specs.declared.ending.Ending.TheVariants.{ConfigRefused, OutOfMemory}
-use Rattle.command_io.specs.declared.limits.TheConstants.{CONFIG_LIMIT}
 use Rattle.command_io.specs.sexp_config.Config.{IsConfigFault, IsConfigOf, IsReadAs, IsRefusedAs, IsRefusedFor}
 use Rattle.command_io.specs.sexp_config.declared.config.Config.{Config}
 use Rattle.command_setup.specs.Setups.{MakesSetup, RefusesText, SetsUpText}
@@ -45,8 +42,3 @@ text_refused text (cause.Refused place why) patterns refused only_refused only =
   refl,
 )
 text_refused text cause.Memory patterns refused only_refused only = refl
-
--- ---- the text of a file within its limit
-
-module _ (content : Content) (text : List ℕ)
-    (holds : ForHeld content (λ held. (held ≡ text) × (length text ≤ CONFIG_LIMIT))) where

@@ -2,10 +2,10 @@
 //! patterns, and writes its canonical text; `graphite FILE` writes the frames of Graphite's plain text.
 #![tactic(auto)]
 
-mod check;
-mod graphite;
+mod check_command;
+mod graphite_command;
 mod text;
 mod write;
 
-pub use check::check;
-pub use graphite::graphite;
+pub use check_command::check;
+pub use graphite_command::graphite;

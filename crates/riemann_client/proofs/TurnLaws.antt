@@ -104,10 +104,6 @@ module _ (client one client' : Client) (first second : List Entry) (keeps : Keep
       subst (λ (cs : List Entry). RunsOut (stream_of client) before after cs) (sym calls)
       (record { may = there.may; none = λ other. absurd (other due) })
 
--- ---- a turn
-
-module _ (client one client' : Client) (turn : Turn) (piece : List ℕ) (same : stream_of one ≡ stream_of client) where
-
 -- ---- whether it was the last turn is noted, which changes nothing else
 
 with_ended : (client : Client) (ended : Bool) (exchange : Exchange) → Represents client exchange
