@@ -20,7 +20,6 @@ pub unclosed_nothing : (log : Option (List Entry)) (link : Option ℕ) → link 
 unclosed_nothing log link is = subst (IsUnclosed log) (sym is) tt
 
 module _ (address stream : List ℕ) (limit : ℕ) where
-
   module _ (some : has_frame stream ≡ true) where
     pub ends_at_once : RunsTo address stream limit (Err Memory) []
     ends_at_once = subst (λ (b : Bool). RunsAs b address stream limit (Err Memory) []) (sym some) (inl refl)

@@ -324,7 +324,6 @@ module _ (bytes : List ℕ) (taken : ℕ) (left left' left'' : List ℕ) (core o
 
 module _ {T U : Type 0} (bytes left left' : List ℕ) (core core' : Core) (patterns patterns' : PatternsReport)
     (old new : Reported) where
-
   -- memory ran out
   pub answers_failed : (result : Result T Memory) (memory : Memory)
       → AnswersFrames bytes left left' core core' patterns patterns' old new result
