@@ -13,7 +13,7 @@ use Rattle.hub_link.specs.hub_meaning.Links.{Link, changed, closed, connected, f
 use Rattle.hub_link.specs.hub_meaning.Links.{is_open_stage, is_read_closed_stage, want_of, wants_of}
 use Rattle.hub_link.specs.declared.link.HubLink.{HubLink}
 use Rattle.hub_link.specs.HubLink.{RepresentsLink}
-use Rattle.conn_core.specs.Kept.{Kept, IsAt, is_newer}
+use Rattle.conn_core.specs.Kept.{Kept, IsAt, is_newer, number_at}
 use Rattle.ports.specs.declared.links.Want.{Want}
 use Rattle.conn_core.specs.Keeping.{AreBeside, Keeps}
 use Rattle.conn_core.specs.Reaching.{Focus}
@@ -63,6 +63,7 @@ focus_found table number place links keeps settled at =
     let cut = beside_cut table.values (connected links) place keeps.values at.within in
     let all = connected_cut links cut.first cut.last cut.meant cut.are in
     let number_is : cut.meant.number ≡ number =
+    same_number cut.first cut.last cut.meant (keeps.wants ∙ ap (map want_of) cut.are) cut.count at.is in
     let rising : AreRising (all.firsts ++ cut.meant ∷ all.lasts) = subst AreRising all.are keeps.rising in
     let before =
     subst (λ (n : ℕ). AreOther n all.firsts) number_is (others_before all.firsts all.lasts cut.meant rising) in
@@ -101,6 +102,16 @@ focus_found table number place links keeps settled at =
         → connected links ≡ first ++ meant ∷ last
         → table.wants ≡ map want_of first ++ want_of meant ∷ map want_of last
     wants_are first last meant is are = is ∙ ap (map want_of) are ∙ map-append want_of first (meant ∷ last)
+
+    same_number : (first last : List Link) (meant : Link) → table.wants ≡ map want_of (first ++ meant ∷ last)
+        → length first ≡ place
+        → number_at table.wants place ≡ number → meant.number ≡ number
+    same_number first last meant is count at =
+        sym (ap (λ (ws : List Want). number_at ws place) (is ∙ map-append want_of first (meant ∷ last))
+        ∙ ap (λ (want : Want). want.link)
+        (get_seam (map want_of first) (map want_of last) (want_of meant)
+        (record { link = 0; read = false; room = false }) place (length-map first want_of ∙ count)))
+        ∙ at
 
 -- a list of values, put together again at a place
 beside_whole : (values : List HubLink) (place : ℕ) → place < length values → (first last : List Link)

@@ -1,7 +1,7 @@
 -- What the occurrence of a turn comes to.
 use Rattle.std.proofs.Common.{◌≡◌, ◌≢◌, ℕ, Bool, true, false, cond, ◌||◌, List, [], ◌∷◌, get_or, set, Result, Ok, Err}
 use Rattle.std.proofs.Common.{refl, ap, sym, ◌∙◌, subst, append-nil}
-use Rattle.std.specs.Prelude.{IsErr, Option, Some, OnOk}
+use Rattle.std.specs.Prelude.{IsErr, Option, Some, None, OnOk}
 use Rattle.hub_link.specs.event_core.declared.arrivals.Core.{Core}
 use Rattle.hub_link.specs.event_core.Core.{CoreConfig, Represents, config_of}
 use Rattle.framing.specs.Frames.{length_at, partial}
@@ -148,6 +148,7 @@ pub occurs_absent : (number count : ℕ) (piece : List ℕ) (hub : Hub) (pattern
     → OccursFrom (Read number count) piece hub hub patterns patterns reported reported (Ok tt) []
 occurs_absent number count piece hub patterns reported absent config state at settled =
     let gone = absent_gone hub.table number state.links at.links absent in
+    by_found (find_link number state.links) refl
     (λ link found. all_found (λ l. l.number ≡ number → is_connected l ≡ false) number state.links link found gone
     (found_number number state.links link found))
   where
@@ -167,6 +168,21 @@ occurs_absent number count piece hub patterns reported absent config state at se
         heard = heard_nothing config state.arrivals reported;
       });
     }
+
+    by_found : (found : Option Link) → find_link number state.links ≡ found
+        → ((link : Link) → find_link number state.links ≡ Some link → is_connected link ≡ false)
+        → Occurs (Read number count) piece hub patterns patterns reported reported (Ok tt) config state []
+    by_found None is unclosed =
+        nothing (ap (read_by config piece [] state) is) (subst (VerdictsOn config piece [] state) (sym is) refl)
+    by_found (Some link) is unclosed =
+        let closed : is_open link ≡ false = not_open link.stage (unclosed link is) in
+        nothing (ap (read_by config piece [] state) is
+        ∙ ap
+        (λ (t : Bool). cond t
+        (with_talk state (all_answered config state.now (messages_in piece [] link) (talk_of piece state link))) state)
+        closed)
+        (subst (VerdictsOn config piece [] state) (sym is)
+        (subst (λ (t : Bool). VerdictsIf t config piece [] state link) (sym closed) refl))
 
 -- ---- a piece of a connected link
 
