@@ -1,16 +1,17 @@
 """Tries edits that the prover has to refuse: edits.py [--look] [--again] [--jobs N] [--minutes N] [CRATE..]
 
-An edit is a file edits/CRATE/NAME.edit (docs/EDITS.md). Those of the crates that are named, or of all, are put into a copy
-of the repository and tried there by `rt must-fail`, which begins with what `rt check` kept of the same text on this machine.
-A crate is skipped if its edits were all refused and neither they nor the crate nor one below it changed since.
+An edit is a file edits/CRATE/NAME.edit (docs/EDITS.md). Those of the crates that are named, or of all, are put into a
+copy of the repository. They are tried there by `rt must-fail`, which begins with what `rt check` kept of the same text on
+this machine. A crate is skipped if its edits were all refused and neither they nor the crate nor one below it changed
+since.
 
 --look       only says which edits do not fit the text of their crate any more; it takes a second
 --again      skips no crate
 --jobs N     tries N crates at a time, each in a copy of its own
 --minutes N  gives up a crate after N minutes (120)
 
-It prints a line for each edit, and writes the day and the result of each crate into docs/EDITS.md. The status is 1 if an
-edit was not refused, and 2 if a name is not that of a crate with edits.
+It prints a line for each edit, and writes the day and the result of each crate into docs/EDITS.md. The status is 1 if
+an edit was not refused, and 2 if a name is not that of a crate with edits.
 """
 
 import argparse
@@ -28,8 +29,7 @@ import sys
 import tempfile
 import threading
 
-from build import ROOT, copy_to, needed_by, read_needs
-
+ROOT = os.path.dirname(os.path.dirname(os.path.abspath(__file__)))
 PAGE = f"{ROOT}/docs/EDITS.md"
 HEAD = "| Crate | Edits | Last tried | Result | Text |"
 REFUSED = "refused"
@@ -49,6 +49,22 @@ SAID = {
 }
 
 
+def read_needs():
+    """Returns each crate of the repository, lowest first, with those of the repository that it uses."""
+    with open(f"{ROOT}/crates.txt", encoding="utf-8") as file:
+        lines = [line.partition("#")[0].partition(":") for line in file]
+    needs = {words.split()[0]: below.split() for words, colon, below in lines if colon}
+    return {crate: [it for it in below if it in needs] for crate, below in needs.items()}
+
+
+def needed_by(crate, needs):
+    """Returns the crate and all below it."""
+    needed = [crate]
+    for name in needed:
+        needed += [it for it in needs[name] if it not in needed]
+    return needed
+
+
 def edits_of(crate):
     """Returns the names of the crate's edits."""
     return sorted(os.path.basename(it).removesuffix(".edit") for it in glob.glob(f"{ROOT}/edits/{crate}/*.edit"))
@@ -59,7 +75,8 @@ def wrong_names(names, needs):
     folders = os.listdir(f"{ROOT}/edits")
     lost = [f"edits/{it}: crates.txt has no crate {it}; move its edits" for it in sorted(folders) if it not in needs]
     unknown = [f"{it}: crates.txt has no crate {it}" for it in names if it not in needs and it not in folders]
-    return lost + unknown + [f"{it}: it has no edits in edits/{it}" for it in names if it in needs and it not in folders]
+    without = [f"{it}: it has no edits in edits/{it}" for it in names if it in needs and it not in folders]
+    return lost + unknown + without
 
 
 def misfit(crate, edit):
@@ -133,10 +150,13 @@ def link_or_copy(file, to):
 
 
 def make_copy(copy, needs):
-    """Makes a copy of the repository without the edits of the gate, and gives it the libraries that are built here."""
-    copy_to(copy, needs)
+    """Copies the crates without the edits of the gate, and with the libraries that are built here."""
+    os.makedirs(copy)
+    for file in ("crates.txt", "HANDLES"):
+        shutil.copy(f"{ROOT}/{file}", copy)
     for crate in needs:
-        shutil.rmtree(f"{copy}/crates/{crate}/must-fail", ignore_errors=True)
+        leave = shutil.ignore_patterns("out", "must-fail")
+        shutil.copytree(f"{ROOT}/crates/{crate}", f"{copy}/crates/{crate}", ignore=leave)
         built = f"{ROOT}/crates/{crate}/out/rlib"
         if os.path.isdir(built):
             shutil.copytree(built, f"{copy}/crates/{crate}/out/rlib", copy_function=link_or_copy)
@@ -146,8 +166,8 @@ def try_crate(crate, copy, seconds):
     """Returns what each edit of the crate came to, by its name, and all that was said."""
     folder = f"{copy}/crates/{crate}"
     shutil.copytree(f"{ROOT}/edits/{crate}", f"{folder}/must-fail")
-    words = ["rt", "must-fail", crate]
-    run = subprocess.Popen(words, cwd=copy, stdout=subprocess.PIPE, stderr=subprocess.STDOUT, text=True, start_new_session=True)
+    how = {"stdout": subprocess.PIPE, "stderr": subprocess.STDOUT, "text": True, "start_new_session": True}
+    run = subprocess.Popen(["rt", "must-fail", crate], cwd=copy, **how)
     RUNNING.add(run.pid)
     try:
         said = run.communicate(timeout=seconds)[0]
