@@ -1,4 +1,4 @@
-"""Tries edits that the prover has to refuse: edits.py [--look] [--again] [--jobs N] [--minutes N] [CRATE..]
+"""Tries edits that the prover has to refuse: edits.py [--look] [--again] [--ci] [--jobs N] [--minutes N] [CRATE..]
 
 An edit is a file edits/CRATE/NAME.edit (docs/EDITS.md). Those of the crates that are named, or of all, are put into a
 copy of the repository. They are tried there by `rt must-fail`, which begins with what `rt check` kept of the same text on
@@ -7,6 +7,7 @@ since.
 
 --look       only says which edits do not fit the text of their crate any more; it takes a second
 --again      skips no crate
+--ci         tries them by `rt ci CRATE`, which begins with what `rt ci` proved on this machine, as right after the gate
 --jobs N     tries N crates at a time, each in a copy of its own
 --minutes N  gives up a crate after N minutes (120)
 
@@ -162,12 +163,12 @@ def make_copy(copy, needs):
             shutil.copytree(built, f"{copy}/crates/{crate}/out/rlib", copy_function=link_or_copy)
 
 
-def try_crate(crate, copy, seconds):
+def try_crate(crate, copy, verb, seconds):
     """Returns what each edit of the crate came to, by its name, and all that was said."""
     folder = f"{copy}/crates/{crate}"
     shutil.copytree(f"{ROOT}/edits/{crate}", f"{folder}/must-fail")
     how = {"stdout": subprocess.PIPE, "stderr": subprocess.STDOUT, "text": True, "start_new_session": True}
-    run = subprocess.Popen(["rt", "must-fail", crate], cwd=copy, **how)
+    run = subprocess.Popen(["rt", verb, crate], cwd=copy, **how)
     RUNNING.add(run.pid)
     try:
         said = run.communicate(timeout=seconds)[0]
@@ -207,8 +208,9 @@ def is_well(result):
 class Trial:
     """The crates that are to be tried, each by one of several threads, and the results."""
 
-    def __init__(self, crates, needs, rows, texts, seconds):
-        self.needs, self.rows, self.texts, self.seconds = needs, rows, texts, seconds
+    def __init__(self, crates, needs, rows, texts, choice):
+        self.needs, self.rows, self.texts = needs, rows, texts
+        self.verb, self.seconds = "ci" if choice.ci else "must-fail", choice.minutes * 60
         self.waiting, self.alone, self.results = queue.SimpleQueue(), threading.Lock(), []
         for crate in crates:
             self.waiting.put(crate)
@@ -220,7 +222,7 @@ class Trial:
                 crate = self.waiting.get_nowait()
             except queue.Empty:
                 return
-            results, said = try_crate(crate, copy, self.seconds)
+            results, said = try_crate(crate, copy, self.verb, self.seconds)
             with self.alone:
                 self.told(crate, results, said)
 
@@ -244,7 +246,7 @@ def try_all(crates, needs, choice):
     done = [it for it in crates if not choice.again and it in rows and rows[it][4] == texts[it] and is_done(rows[it])]
     for crate in done:
         print(f"{crate}: {rows[crate][1]} refused on {rows[crate][2]}, and nothing changed since")
-    trial = Trial([it for it in crates if it not in done], needs, rows, texts, choice.minutes * 60)
+    trial = Trial([it for it in crates if it not in done], needs, rows, texts, choice)
     with tempfile.TemporaryDirectory(prefix="riemann-edits-", ignore_cleanup_errors=True) as room:
         threads = []
         for number in range(choice.jobs):
@@ -265,6 +267,7 @@ def main(words):
     parser = argparse.ArgumentParser(usage=__doc__)
     parser.add_argument("--look", action="store_true")
     parser.add_argument("--again", action="store_true")
+    parser.add_argument("--ci", action="store_true")
     parser.add_argument("--jobs", type=int, default=1)
     parser.add_argument("--minutes", type=int, default=120)
     parser.add_argument("crates", nargs="*")
