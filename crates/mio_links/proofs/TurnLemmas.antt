@@ -58,3 +58,7 @@ given_counts old new Memory same given = same
 -- a turn that is given is not the last
 pub given_goes_on : (what : What) → IsGiven what → what ≢ Stopped
 given_goes_on what given = λ same. subst IsGiven same given
+
+-- a turn that is given is not that memory ran out
+pub given_is_no_memory : (what : What) → IsGiven what → what ≢ Memory
+given_is_no_memory what given = λ same. subst IsGiven same given

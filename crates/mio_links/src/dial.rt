@@ -1,4 +1,4 @@
-ghost use Rattle.std.specs.Prelude.{◌≡◌, length, IfOk, IfSome};
+ghost use Rattle.std.specs.Prelude.{◌≡◌, length, IfErr, IfOk, IfSome};
 ghost use Rattle.ports.specs.Links.{IsPieceWithin, IsWithin};
 ghost use Rattle.mio_links.specs.Turns.{IsGiven, IsOn, OfLink};
 
@@ -56,7 +56,9 @@ impl Dial {
     }
 
     /// Begins to connect to the next address with which that can be begun.
-    fn try_next<R: Net>(&mut self, rt: &R) -> Result<(), LinksFault> {
+    fn try_next<R: Net>(&mut self, rt: &R) -> Result<(), LinksFault>
+        ensures no_memory { IfErr result (λ fault. fault ≡ LinksFault.Failed) }
+    {
         for _ in 0..self.addresses.len() {
             let Some(address) = self.addresses.pop_front() else {
                 break;
@@ -86,6 +88,9 @@ impl Dial {
         ensures within { IfOk result (IsPieceWithin PIECE_LIMIT) }
         ensures given { IfOk result IsGiven }
         ensures link { IfOk result (λ what. OfLink what (λ link. link ≡ 0)) }
+
+        // It takes no memory, so no bytes that were read are lost for it.
+        ensures no_memory { IfErr result (λ fault. fault ≡ LinksFault.Failed) }
     {
         let found = self.ready(wants, buf);
         if found.is_some() {
@@ -113,7 +118,9 @@ impl Dial {
 
     /// Asks the system what is ready, and keeps it. The answer is whether the connection is there now for the first
     /// time.
-    fn ask<R: Net>(&mut self, rt: &R, events: &mut Events) -> Result<bool, LinksFault> {
+    fn ask<R: Net>(&mut self, rt: &R, events: &mut Events) -> Result<bool, LinksFault>
+        ensures no_memory { IfErr result (λ fault. fault ≡ LinksFault.Failed) }
+    {
         self.poll
             .poll(events, Some(Duration::from_millis(LONGEST_WAIT)))?;
         let mut opened = false;
@@ -126,7 +133,9 @@ impl Dial {
     }
 
     /// Keeps what the system reports of the connection.
-    fn note<R: Net>(&mut self, rt: &R, event: &Event) -> Result<bool, LinksFault> {
+    fn note<R: Net>(&mut self, rt: &R, event: &Event) -> Result<bool, LinksFault>
+        ensures no_memory { IfErr result (λ fault. fault ≡ LinksFault.Failed) }
+    {
         let opened = self.settle(rt)?;
         if let Some(client) = &mut self.client {
             client.note(event);
@@ -135,7 +144,9 @@ impl Dial {
     }
 
     /// Looks whether the connection that was begun is there now. One that failed gives way to that of the next address.
-    fn settle<R: Net>(&mut self, rt: &R) -> Result<bool, LinksFault> {
+    fn settle<R: Net>(&mut self, rt: &R) -> Result<bool, LinksFault>
+        ensures no_memory { IfErr result (λ fault. fault ≡ LinksFault.Failed) }
+    {
         let Some(stream) = self.begun.take() else {
             return Ok(false);
         };

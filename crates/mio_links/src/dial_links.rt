@@ -1,4 +1,4 @@
-ghost use Rattle.std.specs.Prelude.{◌≡◌, ◌≢◌, ◌<◌, ◌≤◌, [], ◌∷◌, length, IfOk};
+ghost use Rattle.std.specs.Prelude.{◌≡◌, ◌≢◌, ◌<◌, ◌≤◌, [], ◌∷◌, length, IfErr, IfOk};
 ghost use Rattle.ports.specs.Calls.{AddsCalls};
 ghost use Rattle.ports.specs.Links.{HasListenCause, HasNextCause, IsPieceWithin, IsWithin, listen_entries, next_entries, send_entries};
 ghost use Rattle.ports.specs.declared.entry.Entry.TheVariants.{Close};
@@ -78,6 +78,7 @@ impl<'a, R: Net + Clock> DialLinks<'a, R> {
         ensures within { IfOk result (IsPieceWithin PIECE_LIMIT) }
         ensures given { IfOk result IsGiven }
         ensures link { IfOk result (λ what. OfLink what (λ link. link ≡ 0)) }
+        ensures no_memory { IfErr result (λ fault. fault ≡ LinksFault.Failed) }
         ensures faults { self.new.faults ≡ self.old.faults }
         ensures calls { self.new.calls ≡ self.old.calls }
     {
@@ -89,7 +90,7 @@ impl<'a, R: Net + Clock> DialLinks<'a, R> {
     }
 
     /// The next turn but for its time. A fault is counted.
-    #[tactic(auto, using(crate::proofs::TurnLemmas::given_counts, crate::proofs::TurnLemmas::given_goes_on))]
+    #[tactic(auto, using(crate::proofs::TurnLemmas::given_counts, crate::proofs::TurnLemmas::given_goes_on, crate::proofs::TurnLemmas::given_is_no_memory))]
     fn what(&mut self, wants: &Wants, buf: &mut [u8]) -> What
         requires { length buf.old ≡ PIECE_LIMIT }
         ensures within { IsPieceWithin PIECE_LIMIT result }
@@ -98,14 +99,14 @@ impl<'a, R: Net + Clock> DialLinks<'a, R> {
         ensures calls { self.new.calls ≡ self.old.calls }
         ensures link { OfLink result (λ link. link ≡ 0) }
         ensures goes_on { result ≢ What.Stopped }
+        ensures no_memory { result ≢ What.Memory }
     {
         match self.found(wants, buf) {
             Ok(what) => what,
-            Err(LinksFault::Failed) => {
+            Err(_) => {
                 self.faults = self.faults.saturating_add(1);
                 What::Failed
             }
-            Err(LinksFault::Memory) => What::Memory,
         }
     }
 }
@@ -134,9 +135,10 @@ impl<'a, R: Net + Clock> Links for DialLinks<'a, R> {
             (next_entries wants.now buf.new result) }
         ensures cause { HasNextCause self.old.faults self.new.faults result.what }
 
-        // More than links must report: there is one link, and no turn is the last.
+        // More than links must report: there is one link, no turn is the last, and none needs memory.
         ensures link { OfLink result.what (λ link. link ≡ 0) }
         ensures goes_on { result.what ≢ What.Stopped }
+        ensures no_memory { result.what ≢ What.Memory }
     {
         let turn = Turn {
             what: self.what(wants, buf),

@@ -33,6 +33,10 @@ impl<T: Drop> From<AllocFailed<T>> for LinksFault {
 }
 
 impl From<io::Error> for LinksFault {
+    ghost use Rattle.mio_links.specs.declared.fault.LinksFault.TheVariants.{Failed};
+
+    ghost from_gives = { λ _ fault. fault ≡ Failed };
+
     fn from(_error: io::Error) -> LinksFault {
         LinksFault::Failed
     }

@@ -1,4 +1,5 @@
 ghost use Rattle.std.specs.Prelude.{◌≡◌, ℕ, length, true, Option, Some, IfErr, IfNone, IfOk, IfSome, OnErr, OnOk};
+ghost use Rattle.std.specs.HashMap.{IsUnchanged};
 ghost use Rattle.std.specs.IoError.{raw_os_error};
 ghost use Rattle.std.specs.Option.{ForSome};
 ghost use Rattle.ports.specs.Links.{IsPieceWithin, IsWithin};
@@ -168,7 +169,8 @@ impl Sockets {
     }
 
     fn queue_listener(&mut self) -> Result<(), LinksFault>
-        ensures { IfErr result (λ fault. fault ≡ LinksFault.Memory) }
+        ensures memory { IfErr result (λ fault. fault ≡ LinksFault.Memory) }
+        ensures clients { self.new.clients ≡ self.old.clients }
     {
         if !self.listening {
             self.listening = true;
@@ -193,6 +195,7 @@ impl Sockets {
         ensures link { IfOk result (λ found. IfSome found (λ what.
             OfLink what (λ link. has_link self.new link ≡ true))) }
         ensures opens { IfOk result (λ found. IfSome found (OpensAt next_link)) }
+        ensures untouched { OnErr result (IsUnchanged self.old.clients self.new.clients) }
     {
         match source {
             Source::Listener => {
@@ -252,6 +255,7 @@ impl Sockets {
             OfLink what (λ link. has_link self.new link ≡ true))) }
         ensures opens { IfOk result (λ found. IfSome found (OpensAt next_link)) }
         ensures gives_up { IfOk result (λ found. IfSome found (GivesUp self.new wants.now secs)) }
+        ensures untouched { OnErr result (IsUnchanged self.old.clients self.new.clients) }
     {
         self.listening = false;
         let Some(stream) = self.arrival()? else {
@@ -269,7 +273,9 @@ impl Sockets {
     }
 
     /// The connection that was accepted before, or the next one that the system gives.
-    fn arrival(&mut self) -> Result<Option<TcpStream>, LinksFault> {
+    fn arrival(&mut self) -> Result<Option<TcpStream>, LinksFault>
+        ensures { self.new.clients ≡ self.old.clients }
+    {
         if let Some(stream) = self.arrived.take() {
             return Ok(Some(stream));
         }
@@ -287,6 +293,7 @@ impl Sockets {
         ensures failed { IfErr result (λ fault. fault ≡ LinksFault.Failed →
             IsOfListener (raw_os_error error.now)) }
         ensures goes_on { OnOk result (¬ IsOfListener (raw_os_error error.now)) }
+        ensures clients { self.new.clients ≡ self.old.clients }
     {
         let Some(code) = error.raw_os_error() else {
             return self.queue_listener();
@@ -351,7 +358,8 @@ impl Sockets {
 
     /// Takes in a connection as the link of this number. A socket that the system can't watch is closed.
     fn welcome(&mut self, mut stream: TcpStream, link: u64, secs: u64) -> Result<bool, LinksFault>
-        ensures { IfOk result (λ is_in. is_in ≡ true → has_link self.new link ≡ true) }
+        ensures is_in { IfOk result (λ is_in. is_in ≡ true → has_link self.new link ≡ true) }
+        ensures untouched { OnErr result (IsUnchanged self.old.clients self.new.clients) }
     {
         // Replies are short, and do not wait for one another. A connection that is over already refuses this.
         let _ = stream.set_nodelay(true);
