@@ -1,5 +1,6 @@
 //! Rows of one line: what is asked, and after an arrow what is wanted.
 
+use crate::row::Unread;
 use ev_types::{Blob, Memory};
 use std::alloc::{AllocError, AllocFailed};
 
@@ -8,6 +9,8 @@ use std::alloc::{AllocError, AllocFailed};
 pub enum RowFault {
     /// It cannot be read.
     Unreadable,
+    /// A line of it cannot be read.
+    Unread(Unread),
     Memory,
 }
 

@@ -1,4 +1,5 @@
-use crate::piece::{Mark, PieceFault, append_piece, is_name, value_of};
+use crate::line::RowFault;
+use crate::piece::{Mark, append_piece, is_name, value_of};
 use crate::row::{Field, Row, Unread};
 use std::alloc::{AllocError, Global};
 
@@ -12,12 +13,14 @@ pub fn read_rows(alloc: Global, text: &str) -> Result<Vec<Row>, AllocError> {
         row: None,
         field: None,
     };
-    reader.take_lines(text)?;
-    Ok(reader.rows)
+    for line in text.split('\n') {
+        reader.take_line(line)?;
+    }
+    reader.end_row()?;
+    Ok(reader.into_rows())
 }
 
 /// What was read so far.
-#[derive(Drop)]
 struct Reader {
     alloc: Global,
     /// The number of the last line.
@@ -31,12 +34,30 @@ struct Reader {
     field: Option<Field>,
 }
 
+impl Drop for Reader {
+    fn drop(self) {
+        let Reader {
+            alloc: _alloc,
+            line: _line,
+            names: _names,
+            rows: _rows,
+            row: _row,
+            field: _field,
+        } = self;
+    }
+}
+
 impl Reader {
-    fn take_lines(&mut self, text: &str) -> Result<(), AllocError> {
-        for line in text.split('\n') {
-            self.take_line(line)?;
-        }
-        self.end_row()
+    fn into_rows(self) -> Vec<Row> {
+        let Reader {
+            alloc: _alloc,
+            line: _line,
+            names: _names,
+            rows,
+            row: _row,
+            field: _field,
+        } = self;
+        rows
     }
 
     fn take_line(&mut self, line: &str) -> Result<(), AllocError> {
@@ -87,9 +108,9 @@ impl Reader {
         self.field = Some(field);
         match added {
             Ok(()) => Ok(()),
-            Err(PieceFault::Memory) => Err(AllocError),
-            Err(PieceFault::Unread { why }) => {
-                self.note(why);
+            Err(RowFault::Memory) => Err(AllocError),
+            Err(_) => {
+                self.note("the bytes cannot be read");
                 Ok(())
             }
         }

@@ -1,7 +1,6 @@
 use crate::line::RowFault;
 
 /// A row of a file.
-#[derive(Drop)]
 pub struct Row {
     /// The number of its first line, from 1.
     pub line: u64,
@@ -10,14 +9,33 @@ pub struct Row {
     pub unread: Option<Unread>,
 }
 
+impl Drop for Row {
+    fn drop(self) {
+        let Row {
+            line: _line,
+            fields: _fields,
+            unread: _unread,
+        } = self;
+    }
+}
+
 /// A key of a row with its value.
-#[derive(Drop)]
 pub struct Field {
     /// The number of the key's line, from 1.
     pub line: u64,
     /// The key, and after a blank the name, where there is one.
     pub key: String,
     pub value: Vec<u8>,
+}
+
+impl Drop for Field {
+    fn drop(self) {
+        let Field {
+            line: _line,
+            key: _key,
+            value: _value,
+        } = self;
+    }
 }
 
 /// A line that could not be read.
@@ -32,8 +50,16 @@ impl Field {
     pub fn text(&self) -> Result<&str, RowFault> {
         match str::from_utf8(self.value.as_slice()) {
             Ok(text) => Ok(text),
-            Err(_) => Err(RowFault::Unreadable),
+            Err(_) => Err(self.unread("the value is not UTF-8")),
         }
+    }
+
+    /// The fault of a field with a value that is not valid.
+    pub fn unread(&self, why: &'static str) -> RowFault {
+        RowFault::Unread(Unread {
+            line: self.line,
+            why,
+        })
     }
 }
 

@@ -4,15 +4,24 @@ use crate::line::RowFault;
 use crate::spelled::put_spelled;
 use ev_types::Memory;
 use std::alloc::Global;
-use std::fmt::Write;
+use std::fmt::{Display, Write};
 use std::io;
 
 /// How many rows there are and differ, and a report of those that do.
-#[derive(Drop)]
 pub struct Tally {
     pub rows: u64,
     pub differ: u64,
     pub report: String,
+}
+
+impl Drop for Tally {
+    fn drop(self) {
+        let Tally {
+            rows: _rows,
+            differ: _differ,
+            report: _report,
+        } = self;
+    }
 }
 
 impl Tally {
@@ -32,11 +41,31 @@ impl Tally {
         wanted: &[u8],
         came: &[u8],
     ) -> Result<(), Memory> {
+        let length = self.report.len();
+        self.compare(kind, asked, wanted, came)?;
+        self.count(length);
+        Ok(())
+    }
+
+    /// Counts a row, which differs where the report is no longer as long as before it.
+    pub fn count(&mut self, length: usize) {
         self.rows = self.rows.saturating_add(1);
+        if self.report.len() != length {
+            self.differ = self.differ.saturating_add(1);
+        }
+    }
+
+    /// Reports what came of `asked` where it is not what is wanted.
+    pub fn compare<T: Display + Copy>(
+        &mut self,
+        kind: T,
+        asked: &str,
+        wanted: &[u8],
+        came: &[u8],
+    ) -> Result<(), Memory> {
         if wanted == came {
             return Ok(());
         }
-        self.differ = self.differ.saturating_add(1);
         write!(self.report, "{kind}: {asked}\n  wanted ")?;
         put_spelled(&mut self.report, wanted)?;
         self.report.push_str("\n  came   ")?;
@@ -49,15 +78,16 @@ impl Tally {
     pub fn note(&mut self, line: u64, read: Result<(), RowFault>) -> Result<(), Memory> {
         match read {
             Ok(()) => Ok(()),
-            Err(RowFault::Unreadable) => self.refuse(line),
+            Err(RowFault::Unreadable) => self.refuse(line, "it is not a row of its kind"),
+            Err(RowFault::Unread(unread)) => self.refuse(unread.line, unread.why),
             Err(RowFault::Memory) => Err(Memory),
         }
     }
 
-    fn refuse(&mut self, line: u64) -> Result<(), Memory> {
-        self.rows = self.rows.saturating_add(1);
-        self.differ = self.differ.saturating_add(1);
-        write!(self.report, "line {line} cannot be read\n")?;
+    fn refuse(&mut self, line: u64, why: &str) -> Result<(), Memory> {
+        let length = self.report.len();
+        write!(self.report, "line {line} cannot be read: {why}\n")?;
+        self.count(length);
         Ok(())
     }
 
