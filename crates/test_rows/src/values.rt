@@ -206,7 +206,7 @@ pub fn expires_answer(alloc: Global, asked: &str, line: &mut String) -> Result<(
     let mut event = Event::at(alloc, time);
     event.ttl = read_ttl(ttl)?;
     event.state = read_state(alloc, state)?;
-    put_shown(line, event.is_expired(moment))
+    put_shown(line, moment <= 1 << 40 && event.is_expired(moment))
 }
 
 /// Appends the named event, with a field set to a value.
@@ -262,6 +262,6 @@ pub fn reborn_answer(
     for name in names.split(' ') {
         keep.push(alloc, read_keep_key(alloc, name)?)?;
     }
-    let event = event.reborn(alloc, &keep, moment)?;
+    let event = event.reborn(alloc, &keep, moment.min(1 << 40))?;
     put_event(line, &event)
 }
