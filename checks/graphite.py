@@ -4,7 +4,7 @@
 The plain program below shares no code with the server, and takes its time. The files are drawn from fixed numbers, so that
 each run compares the same. It prints a line for each file, and ends with status 1 if one differs.
 
-graphite.py --rows: prints rows of tests for crates/test_values/data/graphite.rows, drawn the same way.
+graphite.py --rows: prints rows of tests for crates/test_rows/data/graphite-texts.rows, drawn the same way.
 """
 
 import pathlib

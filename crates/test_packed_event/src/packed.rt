@@ -1,8 +1,7 @@
-use crate::fields::{are_absent, is_full, lacks_text};
 use crate::keys::{are_ordered, is_keyed};
 use crate::lent::are_unpacked;
 use crate::rules::{QUERIES, answered};
-use ev_types::{Blob, Event, Field, Memory};
+use ev_types::{Blob, Event, Field, Memory, Value, holds_value};
 use packed_event::{PackFault, PackedEvent, PackedRef};
 use std::alloc::Global;
 
@@ -37,6 +36,11 @@ fn are_of_full(event: &PackedEvent) -> bool {
         && event.time() == 1
         && matches!(event.ttl(), Some(60))
         && !event.ends_key()
+}
+
+/// Whether the metric is that of [`FULL`].
+fn has_metric(event: &PackedEvent) -> bool {
+    holds_value(event, &Field::Metric, &Value::Number(-3))
 }
 
 /// Whether the event expires after the second 61.
@@ -90,7 +94,7 @@ fn an_event_is_its_bytes(rt: HostRuntime) -> Result<(), Memory> {
     assert!(rt; expires_after(&full), "second of expiry");
     assert!(rt; are_of_last(&last), "parts of LAST");
     assert!(rt; !last.is_same(&full), "two events");
-    assert!(rt; are_absent(&last), "fields that are absent");
+    assert!(rt; has_metric(&full), "metric");
     assert!(rt; are_ordered(&full, &last), "order of the keys");
     assert!(rt; is_replied(rt.alloc(), &full), "reply");
     let answered = answered(rt.alloc(), &full, &last);
@@ -102,8 +106,6 @@ fn an_event_is_its_bytes(rt: HostRuntime) -> Result<(), Memory> {
 fn an_event_is_unpacked_and_packed_as_it_was(rt: HostRuntime) -> Result<(), Memory> {
     let full = packed(rt.alloc(), FULL)?;
     let event = full.unpack(rt.alloc())?;
-    assert!(rt; is_full(rt.alloc(), &full), "fields of the bytes");
-    assert!(rt; is_full(rt.alloc(), &event), "fields of the unpacked event");
     assert!(rt; is_keyed(&full, &event), "key");
     assert!(rt;
         is_packed_as(rt.alloc(), &event, FULL, Some(&full)),
@@ -174,7 +176,6 @@ fn the_blocks_of_events_are_used_again(rt: HostRuntime) -> Result<(), Memory> {
     let mut full = packed(rt.alloc(), FULL)?;
     assert!(rt; are_copied(&mut full), "copies");
     let mut event = Event::at(rt.alloc(), 0);
-    assert!(rt; lacks_text(&event, &Field::State), "no state");
     event.time = 1;
     assert!(rt;
         is_packed_in(rt.alloc(), &mut full, &event),

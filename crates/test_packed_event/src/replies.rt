@@ -1,7 +1,7 @@
 ghost use Rattle.std.specs.Prelude.{◌≡◌, IfOk};
 ghost use Rattle.pred_eval.specs.Tree.{Always};
 
-use ev_types::{Blob, Event, Events, Memory};
+use ev_types::{Blob, Event, Memory};
 use live_index::PackedIndex;
 use packed_event::{PackedEvent, PackedRef};
 use pred_eval::{Pred, RegexPatterns, Rule};
@@ -131,37 +131,10 @@ fn is_replied(alloc: Global, index: &mut PackedIndex, pred: &mut Pred, wanted: &
     is_len(len, wanted.len()) && is_found(alloc, index, pred, wanted)
 }
 
-/// Whether a search copies this many events.
-fn is_copied(alloc: Global, index: &mut PackedIndex, pred: &mut Pred, wanted: usize) -> bool {
-    let mut copied = Events::fresh(alloc);
-    let mut steps = Steps::fresh(NoLedger);
-    let is_searched = index.search(alloc, pred, &mut copied, &mut steps).is_ok();
-    is_searched && copied.as_slice().len() == wanted
-}
-
-/// What is wanted of an index that is asked for all events.
-#[derive(Clone, Copy)]
-enum Wanted<'a> {
-    /// The reply is this one, and its length is known.
-    Reply(&'a [u8]),
-    /// A search copies this many events.
-    Copies(usize),
-}
-
-/// Whether the index gives what is wanted, if it is asked with this predicate.
-fn gives_by(alloc: Global, index: &mut PackedIndex, pred: &mut Pred, wanted: Wanted) -> bool
-    requires { pred.old ≡ Always }
-{
-    match wanted {
-        Wanted::Reply(reply) => is_replied(alloc, index, pred, reply),
-        Wanted::Copies(count) => is_copied(alloc, index, pred, count),
-    }
-}
-
-/// Whether the index gives what is wanted.
-fn gives(alloc: Global, index: &mut PackedIndex, wanted: Wanted) -> bool {
+/// Whether the reply with all events is this one.
+fn gives(alloc: Global, index: &mut PackedIndex, wanted: &[u8]) -> bool {
     match always(alloc) {
-        Ok(mut pred) => gives_by(alloc, index, &mut pred, wanted),
+        Ok(mut pred) => is_replied(alloc, index, &mut pred, wanted),
         Err(Memory) => false,
     }
 }
@@ -170,50 +143,16 @@ fn gives(alloc: Global, index: &mut PackedIndex, wanted: Wanted) -> bool {
 fn are_replied(alloc: Global, index: &mut PackedIndex) -> bool {
     for row in ROWS {
         let is_written = write(alloc, index, row.0, row.1).is_ok();
-        if !is_written || !gives(alloc, index, Wanted::Reply(row.2)) {
+        if !is_written || !gives(alloc, index, row.2) {
             return false;
         }
     }
     true
 }
 
-/// A packed event, and one that owns its parts.
-const BOTH: &[(&[u8], bool)] = &[
-    (b"\x08\x01\x1a\x01s\x22\x01a", false),
-    (b"\x08\x01\x1a\x01t\x22\x01a", true),
-];
-
-/// Whether both events were written.
-fn are_written(alloc: Global, index: &mut PackedIndex) -> bool {
-    for (bytes, owned) in BOTH {
-        if write(alloc, index, bytes, *owned).is_err() {
-            return false;
-        }
-    }
-    true
-}
-
-/// Whether this many events have expired at the second 100, and are removed.
-fn is_reaped(alloc: Global, index: &mut PackedIndex, wanted: usize) -> bool {
-    let mut expired = Events::fresh(alloc);
-    let mut steps = Steps::fresh(NoLedger);
-    let is_reaped = index.reap(alloc, 100, &mut expired, &mut steps).is_ok();
-    is_reaped && expired.as_slice().len() == wanted
-}
-
-/// Whether both events are written to an index that has none, are copied, and expire.
-fn are_copied_and_expire(alloc: Global, index: &mut PackedIndex) -> bool {
-    are_written(alloc, index)
-        && gives(alloc, index, Wanted::Copies(2))
-        && is_reaped(alloc, index, 2)
-}
-
-/// The last reply of [`ROWS`] has no event, so that the index is empty after them.
 #[test]
-fn events_are_replied_as_they_were_written_and_are_copied_and_expire(rt: HostRuntime) {
+fn events_are_replied_as_they_were_written(rt: HostRuntime) {
     let mut index = PackedIndex::fresh(rt.alloc());
     let replied = are_replied(rt.alloc(), &mut index);
     assert!(rt; replied);
-    let expired = are_copied_and_expire(rt.alloc(), &mut index);
-    assert!(rt; expired);
 }

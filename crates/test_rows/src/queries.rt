@@ -14,11 +14,11 @@ use query_lang::{read_query, write_query};
 use std::alloc::Global;
 use std::fmt::Write;
 
-/// What is written of the rule that the text states, or why it states none.
+/// What is written of a copy of the rule that the text states, or why it states none.
 pub fn query_answer(alloc: Global, text: &[u8]) -> Result<Blob, RowFault> {
     let mut out = Blob::fresh(alloc);
     match &read_query(alloc, text) {
-        Ok(rule) => write_query(alloc, rule, &mut out)?,
+        Ok(rule) => write_query(alloc, &rule.copy(alloc)?, &mut out)?,
         Err(fault) => put_printed(alloc, &mut out, fault)?,
     }
     Ok(out)

@@ -1,12 +1,11 @@
-//! Sets that no configuration can spell, the branch of a rule, and the fold of nothing.
+//! Sets that no configuration can spell, and the fold of nothing.
 
-use crate::build::{rule, text};
+use crate::build::text;
 use ev_types::{
     Attr, Attrs, Blob, Event, Events, Field, Fold, Item, Memory, Set, Sets, Tags, Text, Value,
 };
-use flow_streams::{apply_defaults, apply_fold, apply_sets, route};
+use flow_streams::{apply_defaults, apply_fold, apply_sets};
 use notice_sink::put_item;
-use pred_eval::Pred;
 use std::alloc::Global;
 
 /// Appends an attribute of this key, with this value where it is not `-`.
@@ -199,52 +198,6 @@ fn are_defaults(alloc: Global) -> bool {
     push_sets(alloc, &mut sets, DEFAULTS) && are_filled(alloc, &sets)
 }
 
-/// Whether this is the branch of the event.
-fn is_branch(alloc: Global, pred: &mut Pred, event: &Event, wanted: u32) -> bool {
-    match route(alloc, pred, event) {
-        Ok(branch) => branch == wanted,
-        Err(Memory) => false,
-    }
-}
-
-/// The branches of the full and of the bare event below the rule of a query.
-type Branches = (&'static str, u32, u32);
-
-const BRANCHES: &[Branches] = &[
-    ("true", 0, 0),
-    ("false", 1, 1),
-    ("state = \"ok\"", 0, 1),
-    ("state = nil", 1, 0),
-    ("service ~= \"^c.u$\"", 0, 1),
-];
-
-/// Whether the events have the branches of the row.
-fn are_branches(alloc: Global, full: &Event, bare: &Event, row: &Branches) -> bool {
-    match rule(alloc, row.0) {
-        Ok(mut pred) => {
-            is_branch(alloc, &mut pred, full, row.1) && is_branch(alloc, &mut pred, bare, row.2)
-        }
-        Err(Memory) => false,
-    }
-}
-
-/// Whether the events have the branches of all rows.
-fn have_branches(alloc: Global, full: &Event, bare: &Event) -> bool {
-    for row in BRANCHES {
-        if !are_branches(alloc, full, bare, row) {
-            return false;
-        }
-    }
-    true
-}
-
-/// Whether rules part the full and the bare event.
-fn are_parted(alloc: Global) -> bool {
-    let full = full_event(alloc);
-    let bare = bare_event(alloc);
-    have_branches(alloc, &full, &bare)
-}
-
 /// Whether a count of no event makes no event.
 fn is_nothing_folded(alloc: Global) -> bool {
     match apply_fold(alloc, Fold::Count, &Events::fresh(alloc)) {
@@ -254,12 +207,11 @@ fn is_nothing_folded(alloc: Global) -> bool {
 }
 
 #[test]
-fn fields_are_set_and_have_defaults_and_events_are_parted_and_folded(rt: HostRuntime) {
+fn fields_are_set_and_have_defaults_and_nothing_is_folded(rt: HostRuntime) {
     let alloc = rt.alloc();
     // A field is set twice, and what does not fit is not set.
     assert!(rt; is_set(alloc, TWICE, SET_TWICE));
     assert!(rt; is_set(alloc, MISFITS, NOT_SET));
     assert!(rt; are_defaults(alloc));
-    assert!(rt; are_parted(alloc));
     assert!(rt; is_nothing_folded(alloc));
 }

@@ -1,6 +1,6 @@
-//! Tests of the streams, the index and the core, of what no row of `test_commands` shows: calls that no command makes,
-//! values that no configuration can spell, counts of what was visited, as many events as a count allows, which
-//! configurations have keys that are apart, and what tests show of configurations.
+//! Tests of the streams, the index and the core, of what no row of `test_rows` shows: calls that no command makes,
+//! values that no configuration can spell, counts of what was visited, as many events as a count allows, and
+//! which configurations have keys that are apart.
 #![tactic(auto)]
 
 #[cfg(test)]
@@ -15,7 +15,5 @@ mod kept;
 mod keys;
 #[cfg(test)]
 mod outputs;
-#[cfg(test)]
-mod verdicts;
 #[cfg(test)]
 mod visits;

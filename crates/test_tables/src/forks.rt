@@ -150,47 +150,6 @@ fn are_due(
         && are_given_once(alloc, table, steps, forks)
 }
 
-/// Whether there are two forks, the second under the key -9 and none under 9.
-fn are_found(alloc: Global, table: &ForkTable<u64>, first: usize, second: usize) -> bool {
-    first != second
-        && is_found(alloc, table, -9, Some(second))
-        && is_found(alloc, table, 9, None)
-        && table.len() == 2
-}
-
-/// Whether the forks have the values 10 and 20, and the second one more after it was entered.
-fn are_entered(
-    table: &mut ForkTable<u64>,
-    steps: &mut Steps<CountLedger>,
-    first: usize,
-    second: usize,
-) -> bool {
-    enter(table, second, steps) == Some(20)
-        && enter(table, second, steps) == Some(21)
-        && enter(table, first, steps) == Some(10)
-}
-
-/// Whether the forks with the values 10 and 20 under the keys 8 and -9 are found, due once, and entered by count.
-fn are_kept(alloc: Global, table: &mut ForkTable<u64>, first: usize, second: usize) -> bool {
-    let mut steps = counter();
-    let dues = [(second, 5), (first, 7)];
-    are_found(alloc, table, first, second)
-        && are_due(alloc, table, &mut steps, &dues, &[first, second])
-        && are_entered(table, &mut steps, first, second)
-        && is_counted(&steps, 3, 2)
-}
-
-/// Whether two forks have numbers of their own, are due once, and are entered by count.
-fn is_given_once(alloc: Global, table: &mut ForkTable<u64>) -> bool {
-    let Some(first) = added(alloc, table, 8, 10, 0) else {
-        return false;
-    };
-    match added(alloc, table, -9, 20, 0) {
-        Some(second) => are_kept(alloc, table, first, second),
-        None => false,
-    }
-}
-
 /// The numbers of three forks.
 #[derive(Clone, Copy)]
 struct ThreeForks {
@@ -276,33 +235,20 @@ fn are_known(alloc: Global, table: &mut ForkTable<u64>) -> bool {
         && are_known_as(alloc, table, &[(-9, Some(forks.second))])
 }
 
-/// What forks show in a new table.
-enum Shown {
-    /// A due fork is given once, and entered by count.
-    GivenOnce,
-    /// A fork ends, and its number is used again.
-    EndsInOrder,
-    /// A fork is known by an event until it ends.
-    Known,
-}
-
-fn shows(alloc: Global, table: &mut ForkTable<u64>, shown: &Shown) -> bool {
-    match shown {
-        Shown::GivenOnce => is_given_once(alloc, table),
-        Shown::EndsInOrder => ends_in_order(alloc, table),
-        Shown::Known => are_known(alloc, table),
-    }
-}
-
-/// Whether forks show this in a new table.
-fn is_shown(alloc: Global, shown: &Shown) -> bool {
+/// Whether forks end in order in a new table.
+fn is_ended(alloc: Global) -> bool {
     let mut table: ForkTable<u64> = ForkTable::fresh(alloc);
-    shows(alloc, &mut table, shown)
+    ends_in_order(alloc, &mut table)
+}
+
+/// Whether forks of a new table are known by events until they end.
+fn is_known(alloc: Global) -> bool {
+    let mut table: ForkTable<u64> = ForkTable::fresh(alloc);
+    are_known(alloc, &mut table)
 }
 
 #[test]
 fn forks_are_given_when_due_known_by_events_and_end(rt: HostRuntime) {
-    assert!(rt; is_shown(rt.alloc(), &Shown::GivenOnce));
-    assert!(rt; is_shown(rt.alloc(), &Shown::EndsInOrder));
-    assert!(rt; is_shown(rt.alloc(), &Shown::Known));
+    assert!(rt; is_ended(rt.alloc()));
+    assert!(rt; is_known(rt.alloc()));
 }

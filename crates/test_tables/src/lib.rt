@@ -1,5 +1,5 @@
-//! Tests of calls of the lower crates that no row of `test_values` makes: tables, lists, generic calls, replies, and the
-//! tree of a rule. Random events of many forks and random writes to an index are rows of `test_commands`.
+//! Tests of calls of the lower crates that no row of `test_rows` makes: tables, lists, due ids, and generic calls. Random
+//! events of many forks and random writes to an index are rows there.
 #![tactic(auto)]
 
 #[cfg(test)]
@@ -12,9 +12,5 @@ mod grown_lists;
 mod lists;
 #[cfg(test)]
 mod queue;
-#[cfg(test)]
-mod replies;
-#[cfg(test)]
-mod rules;
 #[cfg(test)]
 mod steps;
