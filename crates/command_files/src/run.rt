@@ -12,7 +12,7 @@ use step_count::{Ledger, Steps};
 
 /// Runs a server over the links from the first turn of their script to its last, with at most `u64::MAX` turns.
 /// Notices are written to `sink`, a line in each put.
-#[tactic(auto, using(crate::proofs::PlayLaws::ran_script, crate::proofs::PlayLaws::same_script))]
+#[tactic(auto, using(crate::proofs::RunLaws::ran_script, crate::proofs::RunLaws::same_script))]
 pub fn run_script<O: Sink, P: Patterns, G: Ledger>(
     alloc: Global,
     setup: Setup,
