@@ -4,7 +4,7 @@ use Rattle.ports.specs.Calls.{AddsCalls}
 use Rattle.ports.specs.declared.entry.Entry.{Entry}
 use Rattle.mio_links.specs.Reports.{report_of}
 
-pub told : (log log' made : List Entry) (faults faults' : ℕ) → log' ≡ log ++ made → faults ≤ faults'
+pub reported : (log log' made : List Entry) (faults faults' : ℕ) → log' ≡ log ++ made → faults ≤ faults'
     → AddsCalls (report_of log faults) (report_of log' faults') made
-told log log' made faults faults' same risen =
+reported log log' made faults faults' same risen =
     record { log = ap Some same; script = refl; plays = λ _ script none. cc; faults = risen }

@@ -114,7 +114,7 @@ impl<'a, R: Net + Clock> DialLinks<'a, R> {
 impl<'a, R: Net + Clock> Links for DialLinks<'a, R> {
     ghost report = { λ links. report_of links.calls links.faults };
 
-    #[tactic(auto, using(crate::proofs::ReportLemmas::told))]
+    #[tactic(auto, using(crate::proofs::ReportLemmas::reported))]
     fn listen(&mut self, alloc: Global, address: &Text) -> ListenAnswer
         ensures adds { AddsCalls (report_of self.old.calls self.old.faults)
             (report_of self.new.calls self.new.faults)
@@ -126,7 +126,7 @@ impl<'a, R: Net + Clock> Links for DialLinks<'a, R> {
         answer
     }
 
-    #[tactic(auto, using(crate::proofs::ReportLemmas::told))]
+    #[tactic(auto, using(crate::proofs::ReportLemmas::reported))]
     fn next(&mut self, _alloc: Global, wants: &Wants, buf: &mut [u8]) -> Turn
         requires { length buf.old ≡ PIECE_LIMIT }
         ensures within { IsPieceWithin PIECE_LIMIT result.what }
@@ -148,7 +148,7 @@ impl<'a, R: Net + Clock> Links for DialLinks<'a, R> {
         turn
     }
 
-    #[tactic(auto, using(crate::proofs::ReportLemmas::told))]
+    #[tactic(auto, using(crate::proofs::ReportLemmas::reported))]
     fn send(&mut self, _alloc: Global, link: u64, bytes: &[u8]) -> SendAnswer
         requires { 0 < length bytes.now }
         ensures within { IsWithin (length bytes.now) result }
@@ -165,7 +165,7 @@ impl<'a, R: Net + Clock> Links for DialLinks<'a, R> {
         answer
     }
 
-    #[tactic(auto, using(crate::proofs::ReportLemmas::told))]
+    #[tactic(auto, using(crate::proofs::ReportLemmas::reported))]
     fn close(&mut self, link: u64)
         ensures adds { AddsCalls (report_of self.old.calls self.old.faults)
             (report_of self.new.calls self.new.faults)

@@ -135,7 +135,7 @@ impl<'a, R: Net + Clock> MioLinks<'a, R> {
 impl<'a, R: Net + Clock> Links for MioLinks<'a, R> {
     ghost report = { λ links. report_of links.calls links.faults };
 
-    #[tactic(auto, using(crate::proofs::ReportLemmas::told))]
+    #[tactic(auto, using(crate::proofs::ReportLemmas::reported))]
     fn listen(&mut self, alloc: Global, address: &Text) -> ListenAnswer
         ensures adds { AddsCalls (report_of self.old.calls self.old.faults)
             (report_of self.new.calls self.new.faults)
@@ -150,7 +150,7 @@ impl<'a, R: Net + Clock> Links for MioLinks<'a, R> {
         answer
     }
 
-    #[tactic(auto, using(crate::proofs::ReportLemmas::told))]
+    #[tactic(auto, using(crate::proofs::ReportLemmas::reported))]
     fn next(&mut self, _alloc: Global, wants: &Wants, buf: &mut [u8]) -> Turn
         requires { length buf.old ≡ PIECE_LIMIT }
         ensures within { IsPieceWithin PIECE_LIMIT result.what }
@@ -173,7 +173,7 @@ impl<'a, R: Net + Clock> Links for MioLinks<'a, R> {
         turn
     }
 
-    #[tactic(auto, using(crate::proofs::ReportLemmas::told))]
+    #[tactic(auto, using(crate::proofs::ReportLemmas::reported))]
     fn send(&mut self, _alloc: Global, link: u64, bytes: &[u8]) -> SendAnswer
         requires { 0 < length bytes.now }
         ensures within { IsWithin (length bytes.now) result }
@@ -193,7 +193,7 @@ impl<'a, R: Net + Clock> Links for MioLinks<'a, R> {
         answer
     }
 
-    #[tactic(auto, using(crate::proofs::ReportLemmas::told))]
+    #[tactic(auto, using(crate::proofs::ReportLemmas::reported))]
     fn close(&mut self, link: u64)
         ensures adds { AddsCalls (report_of self.old.calls self.old.faults)
             (report_of self.new.calls self.new.faults)

@@ -29,9 +29,9 @@ front_more bytes i n =
     ap (λ rest. take i bytes ++ take n rest) (rest_of bytes i) ∙ sym (take-add i n bytes)
 
 -- one call after another
-pub told_more : (bytes : List ℕ) (i n : ℕ) (a b c : List ℕ) → b ≡ a ++ take i bytes
+pub text_more : (bytes : List ℕ) (i n : ℕ) (a b c : List ℕ) → b ≡ a ++ take i bytes
     → c ≡ b ++ take n (take (length bytes - i) (drop i bytes)) → c ≡ a ++ take (i + n) bytes
-told_more bytes i n a b c one two =
+text_more bytes i n a b c one two =
     two ∙ (ap (λ front. front ++ take n (take (length bytes - i) (drop i bytes))) one
     ∙ (append_assoc a (take i bytes) (take n (take (length bytes - i) (drop i bytes)))
     ∙ ap (λ more. a ++ more) (front_more bytes i n)))
@@ -41,7 +41,7 @@ pub took_more : (bytes : List ℕ) (i n : ℕ) (a b c : Option (List ℕ)) → A
 took_more bytes i n None b c one two = tt
 took_more bytes i n (Some xs) None c one two = absurd one
 took_more bytes i n (Some xs) (Some ys) None one two = two
-took_more bytes i n (Some xs) (Some ys) (Some zs) one two = told_more bytes i n xs ys zs one two
+took_more bytes i n (Some xs) (Some ys) (Some zs) one two = text_more bytes i n xs ys zs one two
 
 pub took_kept : (bytes : List ℕ) (a b c : Option (List ℕ)) → Appends a b bytes → Keeps b c → Appends a c bytes
 took_kept bytes None b c took kept = tt
@@ -51,25 +51,25 @@ took_kept bytes (Some xs) (Some ys) (Some zs) took kept = kept ∙ took
 
 pub first_kept : (bytes : List ℕ) (a b c : Option (List ℕ)) (text text' : List ℕ) → TookFirst bytes a text b text'
     → Keeps b c → TookFirst bytes a text c text'
-first_kept bytes a b c text text' (n, told, took) kept = (n, told, took_kept (take n bytes) a b c took kept)
+first_kept bytes a b c text text' (n, added, took) kept = (n, added, took_kept (take n bytes) a b c took kept)
 
 pub all_kept : (bytes : List ℕ) (a b c : Option (List ℕ)) (text text' : List ℕ) → TookAll bytes a text b text'
     → Keeps b c → TookAll bytes a text c text'
-all_kept bytes a b c text text' (told, took) kept = (told, took_kept bytes a b c took kept)
+all_kept bytes a b c text text' (added, took) kept = (added, took_kept bytes a b c took kept)
 
 -- the first of the bytes, which may be all
 pub first_of : (bytes : List ℕ) (i : ℕ) (a b : Option (List ℕ)) (text text' : List ℕ) → text' ≡ text ++ take i bytes
     → Appends a b (take i bytes) → TookFirst bytes a text b text'
-first_of bytes i a b text text' told took = (i, told, took)
+first_of bytes i a b text text' added took = (i, added, took)
 
 pub all_of : (bytes : List ℕ) (i : ℕ) (a b : Option (List ℕ)) (text text' : List ℕ) → length bytes ≤ i
     → text' ≡ text ++ take i bytes → Appends a b (take i bytes) → TookAll bytes a text b text'
-all_of bytes i a b text text' long told took =
-    (told ∙ ap (λ more. text ++ more) (take_all i bytes long), subst (Appends a b) (take_all i bytes long) took)
+all_of bytes i a b text text' long added took =
+    (added ∙ ap (λ more. text ++ more) (take_all i bytes long), subst (Appends a b) (take_all i bytes long) took)
 
 -- a put that failed
 pub failed_put : (bytes : List ℕ) (contents contents' : Option (List ℕ)) (text text' : List ℕ) (puts faults faults' : ℕ)
     → TookFirst bytes contents text contents' text' → Rose faults faults' → faults ≤ faults'
     → FailsToPut (stream_report text puts faults) bytes (stream_report text' puts faults')
-failed_put bytes contents contents' text text' puts faults faults' (n, told, took) rose risen =
-    record { text = (n, ap Some told); puts = refl; fault = rose; faults = risen }
+failed_put bytes contents contents' text text' puts faults faults' (n, added, took) rose risen =
+    record { text = (n, ap Some added); puts = refl; fault = rose; faults = risen }

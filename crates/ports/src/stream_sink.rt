@@ -49,7 +49,7 @@ impl<W: Write> Sink for StreamSink<W> {
             (stream_report self.old.text self.old.puts self.old.faults)
             bytes.now (stream_report self.new.text self.new.puts self.new.faults)) }
 
-        // More than a sink must report: the bytes that are told are those that the writer got.
+        // More than a sink must report: the bytes that are reported are those that the writer got.
         ensures writes { OnOk result (Appends (W.contents self.old.writer)
             (W.contents self.new.writer) bytes.now) }
         ensures took { TookFirst bytes.now (W.contents self.old.writer) self.old.text
@@ -68,8 +68,8 @@ impl<W: Write> Sink for StreamSink<W> {
     }
 }
 
-/// Writes all the bytes, going on after a short write, and makes them leave. The bytes that the writer took are told,
-/// also where it fails.
+/// Writes all the bytes, going on after a short write, and flushes them. The bytes that the writer took are added to
+/// `text`, also where it fails.
 #[tactic(auto, using(crate::proofs::StreamLemmas::first_kept, crate::proofs::StreamLemmas::all_kept))]
 fn write_whole<W: Write>(writer: &mut W, bytes: &[u8], text: &mut ByteLog) -> io::Result<()>
     ensures ok { OnOk result (TookAll bytes.now (W.contents writer.old) text.old
@@ -82,8 +82,8 @@ fn write_whole<W: Write>(writer: &mut W, bytes: &[u8], text: &mut ByteLog) -> io
     Ok(())
 }
 
-/// The same, and they need not leave.
-#[tactic(auto, using(crate::proofs::StreamLemmas::took_more, crate::proofs::StreamLemmas::told_more, crate::proofs::StreamLemmas::first_of, crate::proofs::StreamLemmas::all_of, crate::proofs::StreamLemmas::took_kept))]
+/// The same without a flush.
+#[tactic(auto, using(crate::proofs::StreamLemmas::took_more, crate::proofs::StreamLemmas::text_more, crate::proofs::StreamLemmas::first_of, crate::proofs::StreamLemmas::all_of, crate::proofs::StreamLemmas::took_kept))]
 fn write_each<W: Write>(writer: &mut W, bytes: &[u8], text: &mut ByteLog) -> io::Result<()>
     ensures ok { OnOk result (TookAll bytes.now (W.contents writer.old) text.old
         (W.contents writer.new) text.new) }
@@ -100,14 +100,14 @@ fn write_each<W: Write>(writer: &mut W, bytes: &[u8], text: &mut ByteLog) -> io:
     Err(io::Error::from(ErrorKind::TimedOut))
 }
 
-/// Writes some of the bytes, tells them, and gives their number. It is 0 where the call was interrupted.
+/// Writes some of the bytes, adds them to `text`, and gives their number. It is 0 where the call was interrupted.
 #[tactic(auto, using(crate::proofs::StreamLemmas::kept_nothing, crate::proofs::StreamLemmas::took_nothing))]
 fn write_some<W: Write>(writer: &mut W, bytes: &[u8], text: &mut ByteLog) -> io::Result<usize>
     ensures within { IfOk result (λ count. count ≤ length bytes.now) }
-    ensures told { IfOk result (λ count. text.new ≡ text.old ++ take count bytes.now) }
+    ensures text { IfOk result (λ count. text.new ≡ text.old ++ take count bytes.now) }
     ensures took { IfOk result (λ count.
         Appends (W.contents writer.old) (W.contents writer.new) (take count bytes.now)) }
-    ensures untold { OnErr result (text.new ≡ text.old) }
+    ensures same { OnErr result (text.new ≡ text.old) }
     ensures kept { OnErr result (Keeps (W.contents writer.old) (W.contents writer.new)) }
 {
     match writer.write(bytes) {
