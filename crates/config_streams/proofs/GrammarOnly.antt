@@ -1,10 +1,11 @@
 -- What is read as a stream is one of the grammar.
-use Rattle.std.proofs.Common.{◌≡◌, ℕ, zero, suc, Bool, true, false, ◌||◌, codes, List, drop, Option, Some}
+use Rattle.std.proofs.Common.{◌≡◌, ℕ, zero, suc, Bool, true, false, ◌&&◌, ◌||◌, codes, List, drop, Option, Some}
 use Rattle.std.proofs.Common.{None, Ok, refl, ap, sym, subst, ◌∙◌}
+use Rattle.std.proofs.lemmas.Bool.{and_parts}
 use Rattle.std.proofs.lemmas.Slice.Eq.{bytes_eq-Decides}
 use Rattle.std.specs.Str.{bytes_eq}
 use Rattle.sexp_read.specs.declared.piece.Atom.TheVariants as atom
-use Rattle.sexp_read.specs.declared.piece.Bracket.TheVariants.{Round, Square, Curly}
+use Rattle.sexp_read.specs.declared.piece.Bracket.TheVariants.{Round}
 use Rattle.sexp_read.specs.Tree.{FormTree, FormTrees, Single, Group, none, also}
 use Rattle.sexp_read.specs.Written.{BareTree, BareTrees, no_trees, and_trees, bare_tree, bare_trees}
 use Rattle.stream_plan.specs.Kinds.{may_have_children}
@@ -16,14 +17,14 @@ use Rattle.config_terms.specs.declared.word.StreamWord.{StreamWord}
 use Rattle.config_terms.specs.declared.word.StreamWord.TheVariants as word
 use Rattle.config_terms.specs.Code.{later}
 use Rattle.config_terms.specs.Steps.{◌>>=◌, nth, absent, at_most}
-use Rattle.config_terms.specs.Words.{stream_text, stream_word}
+use Rattle.config_terms.specs.Words.{stream_text, stream_word, else_text}
 use Rattle.config_terms.specs.Arguments.{Env, bound_value}
 use Rattle.config_terms.specs.Grammar.{symbol, worded}
 use Rattle.config_terms.proofs.Outcomes.{OkGood, SomeGood, bind_good, weaker, ok_if, ok_read}
 use Rattle.config_streams.specs.Sources.{SourceTree}
 use Rattle.config_streams.specs.Streams as read_
 use Rattle.config_streams.specs.Streams.{Located, Below, nothing, Part, One, Rest, with_child, with_part, next_place}
-use Rattle.config_streams.specs.Streams.{Readings, symbol_by, followed, else_part, is_else, is_where, is_where_in}
+use Rattle.config_streams.specs.Streams.{Readings, symbol_by, followed, rest_of, is_where, is_where_in}
 use Rattle.config_streams.specs.Streams.{is_by_in, stream_of, part_at, parts_in, all_read}
 use Rattle.config_streams.specs.Table.{row_of, read, Matches}
 use Rattle.config_streams.specs.Streams.{is_by}
@@ -32,7 +33,7 @@ use Rattle.config_streams.specs.Grammar.{and_then, else_row, IsStream, index_wor
 use Rattle.config_streams.specs.Grammar.{where_else, AreStreams, no_streams, more_streams, with_streams, AreThose}
 use Rattle.config_streams.specs.Grammar.{OnlyStreamsAreRead}
 use Rattle.config_streams.proofs.TableLaws.{RowMatches, row_matches}
-use Rattle.config_streams.proofs.WordLaws.{Spells, word_spells}
+use Rattle.config_terms.proofs.NameLaws.{stream_named}
 use Rattle.config_streams.proofs.GrammarRead.{with_none, with_more}
 use Rattle.config_streams.proofs.StreamLaws.{parts_later}
 
@@ -41,7 +42,7 @@ use Rattle.config_streams.proofs.StreamLaws.{parts_later}
 record Elsewhere (may_else in_fork : Bool) (env : Env) (form : BareTree) (streams : StreamTrees) : Type 0 where
   allowed : may_else ≡ true
   rest : BareTrees
-  is : form ≡ worded (codes "else") rest
+  is : form ≡ worded else_text rest
   are : AreStreams in_fork env rest streams
 
 -- what a form is that was read
@@ -184,16 +185,16 @@ divided_is in_fork env from row front rest one children otherwise is =
     (sym is) (λ matched passes are others. where_else matched passes are others)
 
 row_is : (in_fork : Bool) (env : Env) (from : StreamWord) (row later_row front : BareTrees) (one : KindTree)
-    (below : Below) → is_else from ≡ false → Matches env (row_of in_fork from) row one later_row
+    (below : Below) → Matches env (row_of in_fork from) row one later_row
     → may_have_children one ≡ true → AreStreams (is_by from || in_fork) env front below.children.streams
     → Ending (is_where from) (is_by from || in_fork) env later_row front nothing below
     → Is in_fork env from row (stream one below.children.streams below.otherwise.streams)
-row_is in_fork env from row later_row front one below not_else matched passes are (plain same nowhere) =
+row_is in_fork env from row later_row front one below matched passes are (plain same nowhere) =
     subst (λ (located : Located). Is in_fork env from row (stream one below.children.streams located.streams))
     (sym nowhere)
-    (passing from not_else matched passes
+    (passing from matched passes
     (subst (λ (r : BareTrees). AreStreams (is_by from || in_fork) env r below.children.streams) (sym same) are))
-row_is in_fork env from row later_row front one below not_else matched passes are (divided rest allowed same others) =
+row_is in_fork env from row later_row front one below matched passes are (divided rest allowed same others) =
     divided_is in_fork env from row front rest one below.children.streams below.otherwise.streams
     (where_is from allowed) (subst (λ (r : BareTrees). Matches env (row_of in_fork from) row one r) same matched) passes
     are others
@@ -213,12 +214,11 @@ unfolding at_most
 at_most_means n forms = absent_means n forms
 
 followed_means : (in_fork : Bool) (env : Env) (from : StreamWord) (start : ℕ) (forms : FormTrees) (one : KindTree)
-    (own : ℕ) → is_else from ≡ false
-    → Matches env (row_of in_fork from) (bare_trees forms) one (bare_trees (later own forms))
+    (own : ℕ) → Matches env (row_of in_fork from) (bare_trees forms) one (bare_trees (later own forms))
     → AllMean (is_where from) (is_by from || in_fork) env forms → (may_else : Bool)
     → OkGood (PartIs may_else in_fork env (worded (stream_text from) (bare_trees forms)))
     (followed one start own forms (parts_in (is_where from) (is_by from || in_fork) env forms))
-followed_means in_fork env from start forms one own not_else matched all may_else =
+followed_means in_fork env from start forms one own matched all may_else =
     let m = is_where from in
     let b = is_by from || in_fork in
     let Q = PartIs may_else in_fork env (worded (stream_text from) (bare_trees forms)) in
@@ -227,25 +227,21 @@ followed_means in_fork env from start forms one own not_else matched all may_els
     (all_read nothing (drop own (parts_in m b env forms))) (λ below. Ok (stream_of one start below))
     (later_rows m b env own forms all)
     (λ below known. row_is in_fork env from (bare_trees forms) (bare_trees (later own forms)) known.front one below
-    not_else matched passes
+    matched passes
     (subst (λ (streams : StreamTrees). AreStreams b env known.front streams) (sym known.children) known.are)
     known.ending))
     (λ ends. bind_good (NoMore own forms) Q (at_most own forms) (λ over. Ok (stream_of one start nothing))
     (at_most_means own forms)
-    (λ over over_is. ending from not_else
+    (λ over over_is. ending from
     (subst (λ (fs : FormTrees). Matches env (row_of in_fork from) (bare_trees forms) one (bare_trees fs)) over_is
     matched)
     ends))
 
 -- ---- `else`
 
-else_is : (from : StreamWord) → is_else from ≡ true → from ≡ word.Else
-else_is word.Else e = refl
-else_is from e = cc
-
 else_is_part : (may_else in_fork : Bool) (env : Env) (row : BareTrees) (below : Below) → may_else ≡ true
     → (known : Row false in_fork env row nothing below) → Ending false in_fork env row known.front nothing below
-    → Elsewhere may_else in_fork env (worded (codes "else") row) below.children.streams
+    → Elsewhere may_else in_fork env (worded else_text row) below.children.streams
 else_is_part may_else in_fork env row below allowed known (plain same nowhere) =
     record {
       allowed = allowed;
@@ -258,55 +254,52 @@ else_is_part may_else in_fork env row below allowed known (plain same nowhere) =
     }
 else_is_part may_else in_fork env row below allowed known (divided rest other same others) = true_false other
 
-else_means : (may_else in_fork : Bool) (env : Env) (start : ℕ) (forms : FormTrees) → AllMean false in_fork env forms
-    → OkGood (PartIs may_else in_fork env (worded (codes "else") (bare_trees forms)))
-    (else_part may_else start (parts_in false in_fork env forms))
-else_means may_else in_fork env start forms all =
-    let Q = PartIs may_else in_fork env (worded (codes "else") (bare_trees forms)) in
-    ok_if Q may_else _ _
-    (λ allowed. bind_good (Row false in_fork env (bare_trees forms) nothing) Q
-    (all_read nothing (parts_in false in_fork env forms))
-    (λ below. Ok (Rest below.children)) (rows_mean false in_fork env forms all nothing)
-    (λ below known. else_is_part may_else in_fork env (bare_trees forms) below allowed known known.ending))
-    (λ _. tt)
+else_means : (may_else in_fork : Bool) (env : Env) (forms : FormTrees) → may_else ≡ true
+    → AllMean false in_fork env forms
+    → OkGood (PartIs may_else in_fork env (worded else_text (bare_trees forms)))
+    (rest_of (parts_in false in_fork env forms))
+else_means may_else in_fork env forms allowed all =
+    bind_good (Row false in_fork env (bare_trees forms) nothing)
+    (PartIs may_else in_fork env (worded else_text (bare_trees forms)))
+    (all_read nothing (parts_in false in_fork env forms)) (λ below. Ok (Rest below.children))
+    (rows_mean false in_fork env forms all nothing)
+    (λ below known. else_is_part may_else in_fork env (bare_trees forms) below allowed known known.ending)
 
--- ---- a list that begins with a word
-
-abbrev WordIs : Bool → Bool → Env → FormTrees → StreamWord → Part → Type 0
-WordIs may_else in_fork env forms from = PartIs may_else in_fork env (worded (stream_text from) (bare_trees forms))
+-- ---- a list that begins with a name
 
 word_means : (may_else in_fork : Bool) (env : Env) (from : StreamWord) (start : ℕ) (forms : FormTrees)
     → AllMean (is_where from) (is_by from || in_fork) env forms
-    → OkGood (WordIs may_else in_fork env forms from)
-    (read_.worded may_else in_fork env (Some from) start forms
+    → OkGood (PartIs may_else in_fork env (worded (stream_text from) (bare_trees forms)))
+    (read_.worded may_else in_fork env (stream_text from) (Some from) start forms
     (parts_in (is_where from) (is_by from || in_fork) env forms))
 unfolding read_.worded
 word_means may_else in_fork env from start forms all =
-    let Q = WordIs may_else in_fork env forms from in
-    ok_if Q (is_else from) _ _
-    (λ is. subst (λ (w : StreamWord). AllMean (is_where w) (is_by w || in_fork) env forms
-    → OkGood (WordIs may_else in_fork env forms w)
-    (else_part may_else start (parts_in (is_where w) (is_by w || in_fork) env forms)))
-    (sym (else_is from is)) (else_means may_else in_fork env start forms) all)
-    (λ not_else. bind_good (RowMatches env (row_of in_fork from) 0 forms) Q
+    bind_good (RowMatches env (row_of in_fork from) 0 forms)
+    (PartIs may_else in_fork env (worded (stream_text from) (bare_trees forms)))
     (read (row_of in_fork from) env start 0 forms) _ (row_matches (row_of in_fork from) env start 0 forms)
-    (λ found matched.
-    followed_means in_fork env from start forms found.0 found.1 not_else matched all may_else))
+    (λ found matched. followed_means in_fork env from start forms found.0 found.1 matched all may_else)
 
 call_means : (may_else in_fork : Bool) (env : Env) (name : List ℕ) (start : ℕ) (forms : FormTrees)
     (from : Option StreamWord)
-    → SomeGood (Spells name) from → AllMean (is_where_in from) (is_by_in from || in_fork) env forms
+    → SomeGood (λ one. name ≡ stream_text one) from → AllMean (is_where_in from) (is_by_in from || in_fork) env forms
     → OkGood (PartIs may_else in_fork env (worded name (bare_trees forms)))
-    (read_.worded may_else in_fork env from start forms
+    (read_.worded may_else in_fork env name from start forms
     (parts_in (is_where_in from) (is_by_in from || in_fork) env forms))
 unfolding read_.worded
-call_means may_else in_fork env name start forms None spells all = tt
-call_means may_else in_fork env name start forms (Some from) spells all =
+call_means may_else in_fork env name start forms None spelled all =
+    ok_if (PartIs may_else in_fork env (worded name (bare_trees forms))) (may_else && bytes_eq name else_text) _ _
+    (λ is. let both = and_parts may_else (bytes_eq name else_text) is in
     subst
     (λ (n : List ℕ). OkGood (PartIs may_else in_fork env (worded n (bare_trees forms)))
-    (read_.worded may_else in_fork env (Some from) start forms
+    (rest_of (parts_in false in_fork env forms)))
+    (sym ((bytes_eq-Decides name else_text).0 both.1)) (else_means may_else in_fork env forms both.0 all))
+    (λ _. tt)
+call_means may_else in_fork env name start forms (Some from) spelled all =
+    subst
+    (λ (n : List ℕ). OkGood (PartIs may_else in_fork env (worded n (bare_trees forms)))
+    (read_.worded may_else in_fork env n (Some from) start forms
     (parts_in (is_where from) (is_by from || in_fork) env forms)))
-    (sym spells) (word_means may_else in_fork env from start forms all)
+    (sym spelled) (word_means may_else in_fork env from start forms all)
 
 symbol_means : (may_else in_fork : Bool) (env : Env) (name : List ℕ) (start : ℕ) (held : Option Bound)
     → bound_value name env ≡ held → OkGood (PartIs may_else in_fork env (symbol name)) (symbol_by held name start)
@@ -317,10 +310,7 @@ symbol_means may_else in_fork env name start None is =
     (index_word (ap (λ (n : List ℕ). bound_value n env) (sym at) ∙ is)))
     (λ _. tt)
 symbol_means may_else in_fork env name start (Some bound.Index) is = index_name is
-symbol_means may_else in_fork env name start (Some (bound.Text text)) is = tt
-symbol_means may_else in_fork env name start (Some (bound.Pattern text)) is = tt
-symbol_means may_else in_fork env name start (Some (bound.Number number)) is = tt
-symbol_means may_else in_fork env name start (Some (bound.Keyword key)) is = tt
+symbol_means may_else in_fork env name start held is = tt
 
 -- ---- all streams
 
@@ -332,20 +322,9 @@ mutual
   part_means may_else in_fork env (Single (atom.Symbol name) start last) =
       symbol_means may_else in_fork env name start (bound_value name env) refl
   part_means may_else in_fork env (Group Round (also (Single (atom.Symbol name) begin end) forms) start last) =
-      call_means may_else in_fork env name start forms (stream_word name) (word_spells name)
+      call_means may_else in_fork env name start forms (stream_word name) (stream_named name)
       (all_mean (is_where_in (stream_word name)) (is_by_in (stream_word name) || in_fork) env forms)
-  part_means may_else in_fork env (Group Round (also (Single (atom.Keyword key) begin end) forms) start last) = tt
-  part_means may_else in_fork env (Group Round (also (Single (atom.Text text) begin end) forms) start last) = tt
-  part_means may_else in_fork env (Group Round (also (Single (atom.Pattern text) begin end) forms) start last) = tt
-  part_means may_else in_fork env (Group Round (also (Single (atom.Number number) begin end) forms) start last) = tt
-  part_means may_else in_fork env (Group Round (also (Group bracket inner begin end) forms) start last) = tt
-  part_means may_else in_fork env (Group Round none start last) = tt
-  part_means may_else in_fork env (Single (atom.Text text) start last) = tt
-  part_means may_else in_fork env (Single (atom.Pattern text) start last) = tt
-  part_means may_else in_fork env (Single (atom.Number number) start last) = tt
-  part_means may_else in_fork env (Single (atom.Keyword key) start last) = tt
-  part_means may_else in_fork env (Group Square forms start last) = tt
-  part_means may_else in_fork env (Group Curly forms start last) = tt
+  part_means may_else in_fork env f = tt
 
   all_mean : (may_else in_fork : Bool) (env : Env) (forms : FormTrees) → AllMean may_else in_fork env forms
   all_mean may_else in_fork env none = tt

@@ -13,24 +13,24 @@ use Rattle.config_terms.specs.declared.word.StreamWord.{StreamWord}
 use Rattle.config_terms.specs.declared.word.StreamWord.TheVariants as word
 use Rattle.config_terms.specs.Code.{later, next_of}
 use Rattle.config_terms.specs.Steps.{Fault, ◌>>=◌, nth, at_most}
-use Rattle.config_terms.specs.Words.{stream_text, stream_word}
+use Rattle.config_terms.specs.Words.{stream_text, stream_word, else_text}
 use Rattle.config_terms.specs.Arguments.{Env, bound_value}
 use Rattle.config_terms.specs.Grammar.{worded}
 use Rattle.config_terms.proofs.BareForms.{single_of, also_of, none_of, call_of}
+use Rattle.config_terms.proofs.NameLaws.{stream_found}
 use Rattle.config_terms.proofs.GrammarRead.{one_of}
 use Rattle.config_streams.specs.Table.{row_of, read, Matches}
 use Rattle.config_streams.specs.Sources.{SourceTree, SourceTrees, source}
 use Rattle.config_streams.specs.Sources as sources
 use Rattle.config_streams.specs.Streams as read_
 use Rattle.config_streams.specs.Streams.{Located, Below, nothing, Part, One, Rest, with_stream, with_child, Readings}
-use Rattle.config_streams.specs.Streams.{symbol_by, else_part, is_else, is_where, is_by, is_where_in, is_by_in, part_at}
+use Rattle.config_streams.specs.Streams.{symbol_by, rest_of, is_where, is_by, is_where_in, is_by_in, part_at}
 use Rattle.config_streams.specs.Streams.{parts_in, all_read}
 use Rattle.config_streams.specs.Grammar.{and_then, else_row, IsStream, index_word, index_name, ending, passing}
 use Rattle.config_streams.specs.Grammar.{where_else, AreStreams, no_streams, more_streams, with_streams, IsGrown}
 use Rattle.config_streams.specs.Grammar.{StreamsAreRead}
 use Rattle.config_streams.proofs.StreamLaws.{parts_more, parts_later}
 use Rattle.config_streams.proofs.TableLaws.{row_read}
-use Rattle.config_streams.proofs.WordLaws.{word_read}
 
 -- ---- streams in a row
 
@@ -56,7 +56,7 @@ symbol_part may_else in_fork env name start last = refl
 
 call_part : (may_else in_fork : Bool) (env : Env) (name : List ℕ) (begin end : ℕ) (forms : FormTrees) (start last : ℕ)
     → part_at may_else in_fork env (Group Round (also (Single (atom.Symbol name) begin end) forms) start last)
-    ≡ read_.worded may_else in_fork env (stream_word name) start forms
+    ≡ read_.worded may_else in_fork env name (stream_word name) start forms
     (parts_in (is_where_in (stream_word name)) (is_by_in (stream_word name) || in_fork) env forms)
 unfolding part_at parts_in
 call_part may_else in_fork env name begin end forms start last = refl
@@ -71,18 +71,19 @@ record PartRead (may_else in_fork : Bool) (env : Env) (f : FormTree) (one : Stre
   place : SourceTree
   is : part_at may_else in_fork env f ≡ Ok (One one place)
 
--- a list that begins with a word
-record Worded (may_else in_fork : Bool) (env : Env) (f : FormTree) (from : StreamWord) (args : BareTrees) : Type 0 where
+-- a list that begins with a name, which is this word if it is one
+record Worded (may_else in_fork : Bool) (env : Env) (f : FormTree) (name : List ℕ) (from : Option StreamWord)
+    (args : BareTrees) : Type 0 where
   forms : FormTrees
   start : ℕ
   forms_are : bare_trees forms ≡ args
   is : part_at may_else in_fork env f
-      ≡ read_.worded may_else in_fork env (Some from) start forms
-      (parts_in (is_where_in (Some from)) (is_by_in (Some from) || in_fork) env forms)
+      ≡ read_.worded may_else in_fork env name from start forms
+      (parts_in (is_where_in from) (is_by_in from || in_fork) env forms)
 
-worded_part : (may_else in_fork : Bool) (env : Env) (f : FormTree) (name : List ℕ) (from : StreamWord)
+worded_part : (may_else in_fork : Bool) (env : Env) (f : FormTree) (name : List ℕ) (from : Option StreamWord)
     (args : BareTrees)
-    → stream_word name ≡ Some from → bare_tree f ≡ worded name args → Worded may_else in_fork env f from args
+    → stream_word name ≡ from → bare_tree f ≡ worded name args → Worded may_else in_fork env f name from args
 worded_part may_else in_fork env f name from args named h =
     let call = call_of f (atom.Symbol name) args h in
     record {
@@ -94,7 +95,7 @@ worded_part may_else in_fork env f name from args named h =
           ∙ call_part may_else in_fork env name call.begin call.end call.forms call.start call.last
           ∙ ap
           (λ (one : Option StreamWord).
-          read_.worded may_else in_fork env one call.start call.forms
+          read_.worded may_else in_fork env name one call.start call.forms
           (parts_in (is_where_in one) (is_by_in one || in_fork) env call.forms))
           named;
     }
@@ -106,22 +107,22 @@ made one start below =
 
 kind_part : (may_else in_fork : Bool) (env : Env) (from : StreamWord) (start own : ℕ) (forms : FormTrees)
     (readings : Readings) (one : KindTree)
-    → is_else from ≡ false → read (row_of in_fork from) env start 0 forms ≡ Ok (one, own)
+    → read (row_of in_fork from) env start 0 forms ≡ Ok (one, own)
     → may_have_children one ≡ true
-    → read_.worded may_else in_fork env (Some from) start forms readings
+    → read_.worded may_else in_fork env (stream_text from) (Some from) start forms readings
     ≡ (all_read nothing (drop own readings) >>= made one start)
 unfolding read_.worded
-kind_part may_else in_fork env from start own forms readings one not_else is passes = rw (not_else, is, passes) refl
+kind_part may_else in_fork env from start own forms readings one is passes = rw (is, passes) refl
 
 ending_part : (may_else in_fork : Bool) (env : Env) (from : StreamWord) (start own : ℕ) (forms : FormTrees)
     (readings : Readings) (one : KindTree)
-    → is_else from ≡ false → read (row_of in_fork from) env start 0 forms ≡ Ok (one, own)
+    → read (row_of in_fork from) env start 0 forms ≡ Ok (one, own)
     → may_have_children one ≡ false → nth own forms ≡ None
-    → read_.worded may_else in_fork env (Some from) start forms readings
+    → read_.worded may_else in_fork env (stream_text from) (Some from) start forms readings
     ≡ Ok (One (stream one plan.none plan.none) (no_sources start))
 unfolding read_.worded at_most
-ending_part may_else in_fork env from start own forms readings one not_else is ends over =
-    rw (not_else, is, ends, over) refl
+ending_part may_else in_fork env from start own forms readings one is ends over =
+    rw (is, ends, over) refl
 
 none_later : (n : ℕ) (forms : FormTrees) → later n forms ≡ none → nth n forms ≡ None
 none_later n none h = refl
@@ -130,10 +131,14 @@ none_later (suc n) (also f forms) h = none_later n forms h
 
 -- ---- the streams of `else`
 
-else_word : (env : Env) (may_else in_fork : Bool) (start : ℕ) (forms : FormTrees) (readings : Readings)
-    → read_.worded may_else in_fork env (Some word.Else) start forms readings ≡ else_part may_else start readings
+else_is_no_word : stream_word else_text ≡ None
+unfolding stream_word
+else_is_no_word = refl
+
+else_part : (env : Env) (in_fork : Bool) (start : ℕ) (forms : FormTrees) (readings : Readings)
+    → read_.worded true in_fork env else_text None start forms readings ≡ rest_of readings
 unfolding read_.worded
-else_word env may_else in_fork start forms readings = refl
+else_part env in_fork start forms readings = refl
 
 abbrev with_rest : Below → Located → Below
 with_rest below located = record { children = below.children; otherwise = located }
@@ -189,11 +194,12 @@ passed_ended may_else in_fork env forms children known =
 
 list_part : (may_else in_fork : Bool) (env : Env) (f : FormTree) (from : StreamWord) (row rest : BareTrees)
     (one : KindTree) (children otherwise : StreamTrees)
-    → is_else from ≡ false → Matches env (row_of in_fork from) row one rest → may_have_children one ≡ true
-    → ((fs : FormTrees) → bare_trees fs ≡ rest → Ended (is_where from) (is_by from || in_fork) env fs children otherwise)
+    → Matches env (row_of in_fork from) row one rest → may_have_children one ≡ true
+    → ((fs : FormTrees) → bare_trees fs ≡ rest → Ended (is_where from)
+    (is_by from || in_fork) env fs children otherwise)
     → bare_tree f ≡ worded (stream_text from) row → PartRead may_else in_fork env f (stream one children otherwise)
-list_part may_else in_fork env f from row rest one children otherwise not_else matched passes end h =
-    let part = worded_part may_else in_fork env f (stream_text from) from row (word_read from) h in
+list_part may_else in_fork env f from row rest one children otherwise matched passes end h =
+    let part = worded_part may_else in_fork env f (stream_text from) (Some from) row (stream_found from) h in
     let led = row_read env (row_of in_fork from) row one rest matched 0 part.forms part.forms_are in
     let m = is_where from in
     let b = is_by from || in_fork in
@@ -203,7 +209,7 @@ list_part may_else in_fork env f from row rest one children otherwise not_else m
       place = source part.start below.children.places below.otherwise.places;
       is =
           part.is
-          ∙ kind_part may_else in_fork env from part.start led.own part.forms (parts_in m b env part.forms) one not_else
+          ∙ kind_part may_else in_fork env from part.start led.own part.forms (parts_in m b env part.forms) one
           (led.is part.start) passes
           ∙ ap (λ (readings : Readings). all_read nothing readings >>= made one part.start)
           (sym (parts_later m b env led.own part.forms (later led.own part.forms) refl))
@@ -214,17 +220,17 @@ list_part may_else in_fork env f from row rest one children otherwise not_else m
     }
 
 end_part : (may_else in_fork : Bool) (env : Env) (f : FormTree) (from : StreamWord) (row : BareTrees) (one : KindTree)
-    → is_else from ≡ false → Matches env (row_of in_fork from) row one no_trees → may_have_children one ≡ false
+    → Matches env (row_of in_fork from) row one no_trees → may_have_children one ≡ false
     → bare_tree f ≡ worded (stream_text from) row → PartRead may_else in_fork env f (stream one plan.none plan.none)
-end_part may_else in_fork env f from row one not_else matched ends h =
-    let part = worded_part may_else in_fork env f (stream_text from) from row (word_read from) h in
+end_part may_else in_fork env f from row one matched ends h =
+    let part = worded_part may_else in_fork env f (stream_text from) (Some from) row (stream_found from) h in
     let led = row_read env (row_of in_fork from) row one no_trees matched 0 part.forms part.forms_are in
     record {
       place = no_sources part.start;
       is =
           part.is
           ∙ ending_part may_else in_fork env from part.start led.own part.forms
-          (parts_in (is_where from) (is_by from || in_fork) env part.forms) one not_else (led.is part.start) ends
+          (parts_in (is_where from) (is_by from || in_fork) env part.forms) one (led.is part.start) ends
           (none_later led.own part.forms (none_of (later led.own part.forms) led.rest_are));
     }
 
@@ -235,14 +241,14 @@ record ElseRead (in_fork : Bool) (env : Env) (e : FormTree) (otherwise : StreamT
 
 else_read : (in_fork : Bool) (env : Env) (e : FormTree) (rest : BareTrees) (otherwise : StreamTrees)
     → ((m : Bool) (fs : FormTrees) → bare_trees fs ≡ rest → Passed m in_fork env nothing fs otherwise no_trees)
-    → bare_tree e ≡ worded (codes "else") rest → ElseRead in_fork env e otherwise
+    → bare_tree e ≡ worded else_text rest → ElseRead in_fork env e otherwise
 else_read in_fork env e rest otherwise pass h =
-    let part = worded_part true in_fork env e (codes "else") word.Else rest (word_read word.Else) h in
+    let part = worded_part true in_fork env e else_text None rest else_is_no_word h in
     let known = pass false part.forms part.forms_are in
     record {
       located = known.below.children;
       streams_are = known.grown.children;
-      is = part.is ∙ else_word env true in_fork part.start part.forms (parts_in false in_fork env part.forms)
+      is = part.is ∙ else_part env in_fork part.start part.forms (parts_in false in_fork env part.forms)
           ∙ ap (λ (found : Result Below Fault). found >>= λ below. Ok (Rest below.children))
           (all_passed false in_fork env nothing part.forms otherwise known);
     }
@@ -252,7 +258,7 @@ ended_of : (in_fork : Bool) (env : Env) (forms : FormTrees) (children otherwise 
     → ((m : Bool) (fs : FormTrees) → bare_trees fs ≡ rest → Passed m in_fork env nothing fs otherwise no_trees)
     → Ended true in_fork env forms children otherwise
 ended_of in_fork env forms children otherwise rest known pass =
-    let one = one_of known.rest (worded (codes "else") rest) known.rest_are in
+    let one = one_of known.rest (worded else_text rest) known.rest_are in
     let last = else_read in_fork env one.a rest otherwise pass one.a_is in
     record {
       below = with_rest known.below last.located;
@@ -309,21 +315,21 @@ mutual
             ap (part_at may_else in_fork env) single.is ∙ symbol_part may_else in_fork env name single.start single.last
             ∙ ap (λ (held : Option Bound). symbol_by held name single.start) is;
       }
-  stream_read in_fork env _ _ (ending {row = row} {one = one} from not_else matched ends) may_else f h =
-      end_part may_else in_fork env f from row one not_else matched ends h
+  stream_read in_fork env _ _ (ending {row = row} {one = one} from matched ends) may_else f h =
+      end_part may_else in_fork env f from row one matched ends h
   stream_read in_fork env _ _
-      (passing {row = row} {forms = forms} {one = one} {children = children} from not_else matched passes are)
+      (passing {row = row} {forms = forms} {one = one} {children = children} from matched passes are)
       may_else f h =
       let b = is_by from || in_fork in
-      list_part may_else in_fork env f from row forms one children plan.none not_else matched passes
+      list_part may_else in_fork env f from row forms one children plan.none matched passes
       (λ fs at. passed_ended (is_where from) b env fs children
       (streams_read b env forms children are (is_where from) fs nothing no_trees (at ∙ then_none forms))) h
   stream_read in_fork env _ _
       (where_else {row = row} {forms = forms} {rest = rest} {one = one} {children = children} {otherwise = otherwise}
       matched passes are others)
       may_else f h =
-      list_part may_else in_fork env f word.Where row (and_then forms (else_row rest)) one children otherwise refl
-      matched passes
+      list_part may_else in_fork env f word.Where row (and_then forms (else_row rest)) one children otherwise matched
+      passes
       (λ fs at.
       ended_of in_fork env fs children otherwise rest
       (streams_read in_fork env forms children are true fs nothing (else_row rest) at)

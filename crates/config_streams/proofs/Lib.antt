@@ -1,8 +1,7 @@
-pub mod ShapeLaws
+pub mod SortLaws
 pub mod TableLaws
 pub mod CodeLaws
 pub mod StreamLaws
-pub mod WordLaws
 pub mod GrammarRead
 pub mod GrammarOnly
 pub mod GrammarLaws

@@ -2,7 +2,7 @@
 use Rattle.std.proofs.Common.{◌≡◌, ℕ, zero, suc, Bool, ◌||◌, List, [], ◌∷◌, ◌++◌, drop, Vec, Global, Option, Result, Ok}
 use Rattle.std.proofs.Common.{Err, refl, ap, sym, ◌∙◌}
 use Rattle.sexp_read.specs.declared.piece.Atom.TheVariants as atom
-use Rattle.sexp_read.specs.declared.piece.Bracket.TheVariants.{Round, Square, Curly}
+use Rattle.sexp_read.specs.declared.piece.Bracket.TheVariants.{Round}
 use Rattle.sexp_read.specs.Tree.{FormTree, FormTrees, Single, Group, none, also}
 use Rattle.stream_plan.specs.declared.plan.Kind.{Kind}
 use Rattle.stream_plan.specs.declared.plan.Stream.{Stream, out-Stream}
@@ -67,7 +67,7 @@ source_tree-opened s =
 abbrev pub part_by : Bool → Bool → Env → ℕ → Look → Result Part Fault
 part_by may_else in_fork env start (Symbol name) = symbol_by (bound_value name env) name start
 part_by may_else in_fork env start (Call name forms) =
-    worded may_else in_fork env (stream_word name) start forms
+    worded may_else in_fork env name (stream_word name) start forms
     (parts_in (is_where_in (stream_word name)) (is_by_in (stream_word name) || in_fork) env forms)
 part_by may_else in_fork env start (Lookup name forms) = Err (start, why.Form)
 part_by may_else in_fork env start Other = Err (start, why.Form)
@@ -76,19 +76,8 @@ part_looks : (may_else in_fork : Bool) (env : Env) (form : FormTree)
     → part_at may_else in_fork env form ≡ part_by may_else in_fork env (start_of form) (look_of form)
 unfolding part_at look_of
 part_looks m i env (Single (atom.Symbol name) start last) = refl
-part_looks m i env (Single (atom.Text name) start last) = refl
-part_looks m i env (Single (atom.Pattern name) start last) = refl
-part_looks m i env (Single (atom.Number name) start last) = refl
-part_looks m i env (Single (atom.Keyword name) start last) = refl
 part_looks m i env (Group Round (also (Single (atom.Symbol name) begin end) forms) start last) = refl
-part_looks m i env (Group Round (also (Single (atom.Keyword name) begin end) forms) start last) = refl
-part_looks m i env (Group Round (also (Single (atom.Text name) begin end) forms) start last) = refl
-part_looks m i env (Group Round (also (Single (atom.Pattern name) begin end) forms) start last) = refl
-part_looks m i env (Group Round (also (Single (atom.Number name) begin end) forms) start last) = refl
-part_looks m i env (Group Round (also (Group bracket more begin end) forms) start last) = refl
-part_looks m i env (Group Round none start last) = refl
-part_looks m i env (Group Square forms start last) = refl
-part_looks m i env (Group Curly forms start last) = refl
+part_looks m i env form = refl
 
 pub part_by_look : (may_else in_fork : Bool) (env : Env) (form : FormTree) (look : Look) → look ≡ look_of form
     → part_at may_else in_fork env form ≡ part_by may_else in_fork env (start_of form) look
@@ -123,18 +112,6 @@ pub parts_more : (may_else in_fork : Bool) (env : Env) (below more : Below) (lef
 unfolding all_read parts_in
 parts_more m i env below more left forms form one next at read is put =
     let reported : with_part below one (next_place (parts_in m i env forms)) ≡ Ok more =
-    rw (next_of_parts m i env forms, sym is) put in
-    rw (at, read, reported) refl
-
-pub parts_fail : (may_else in_fork : Bool) (env : Env) (below : Below) (left forms : FormTrees) (form : FormTree)
-    (one : Part)
-    (next : Option ℕ) (fault : Fault) →
-    left ≡ also form forms → part_at may_else in_fork env form ≡ Ok one → next ≡ next_of forms →
-    with_part below one next ≡ Err fault →
-    all_read below (parts_in may_else in_fork env left) ≡ Err fault
-unfolding all_read parts_in
-parts_fail m i env below left forms form one next fault at read is put =
-    let reported : with_part below one (next_place (parts_in m i env forms)) ≡ Err fault =
     rw (next_of_parts m i env forms, sym is) put in
     rw (at, read, reported) refl
 

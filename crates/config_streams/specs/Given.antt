@@ -6,14 +6,14 @@ use Rattle.stream_plan.specs.Tree.{KindTree, kind_tree}
 use Rattle.stream_plan.specs.declared.plan.Kind.{Kind}
 use Rattle.config_terms.specs.Steps.{Fault, ◌>>=◌, nth}
 use Rattle.config_streams.specs.declared.given.Given.{Given}
-use Rattle.config_streams.specs.Shapes.{Shape, ValueOf, OneField, SetTo}
-use Rattle.config_streams.specs.Table.{Look, Row, argued_at, looks_at, read}
+use Rattle.config_streams.specs.Sorts.{Sort, ValueOf, OneField, SetTo}
+use Rattle.config_streams.specs.Table.{Ahead, Row, read_argument, is_ahead, read}
 
-abbrev pub value_in : Given → ℕ → (shape : Shape) → Result (ValueOf shape) Fault
-value_in given n shape = argued_at shape given.env.now given.start n (form_trees given.forms.now)
+abbrev pub value_in : Given → ℕ → (sort : Sort) → Result (ValueOf sort) Fault
+value_in given n sort = read_argument sort given.env.now given.start n (form_trees given.forms.now)
 
-abbrev pub looks_in : Given → ℕ → Look → Bool
-looks_in given n look = looks_at look given.env.now (nth n (form_trees given.forms.now))
+abbrev pub ahead_in : Given → ℕ → Ahead → Bool
+ahead_in given n ahead = is_ahead ahead given.env.now (nth n (form_trees given.forms.now))
 
 abbrev pub one_set_in : Given → Result (List Set) Fault
 one_set_in given =

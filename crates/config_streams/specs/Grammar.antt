@@ -1,5 +1,5 @@
 -- The grammar of streams, as a relation: which forms, apart from their places, represent which streams. Words, their
--- arguments and their kinds stand in the table. That a stream takes what comes to it, and how many streams there are, is
+-- arguments and their kinds are in the table. That a stream takes what comes to it, and how many streams there are, is
 -- said of whole plans (`stream_plan`).
 use Rattle.std.specs.Prelude.{◌≡◌, ℕ, Bool, true, false, ◌||◌, List, [], ◌∷◌, codes, Some, None, Ok}
 use Rattle.sexp_read.specs.Tree.{FormTrees}
@@ -10,11 +10,11 @@ use Rattle.stream_plan.specs.Tree as kind
 use Rattle.config_terms.specs.declared.binding.Bound.TheVariants as bound
 use Rattle.config_terms.specs.declared.word.StreamWord.{StreamWord}
 use Rattle.config_terms.specs.declared.word.StreamWord.TheVariants as word
-use Rattle.config_terms.specs.Words.{stream_text}
+use Rattle.config_terms.specs.Words.{stream_text, else_text}
 use Rattle.config_terms.specs.Arguments.{Env, bound_value}
 use Rattle.config_terms.specs.Grammar.{symbol, worded}
 use Rattle.config_streams.specs.Table.{row_of, Matches}
-use Rattle.config_streams.specs.Streams.{Below, is_by, is_else, parts_in, all_read}
+use Rattle.config_streams.specs.Streams.{Below, is_by, parts_in, all_read}
 
 -- forms, and others after them
 abbrev pub and_then : BareTrees → BareTrees → BareTrees
@@ -22,7 +22,7 @@ and_then no_trees others = others
 and_then (and_trees form forms) others = and_trees form (and_then forms others)
 
 abbrev pub else_row : BareTrees → BareTrees
-else_row rest = listed (worded (codes "else") rest ∷ [])
+else_row rest = listed (worded else_text rest ∷ [])
 
 -- the truth value says whether it is below a `by`
 mutual
@@ -33,10 +33,10 @@ mutual
         → IsStream in_fork env (symbol name) (stream kind.Index none none)
     -- nothing follows the arguments of what may have no streams
     ending : {in_fork : Bool} {env : Env} {row : BareTrees} {one : KindTree} → (from : StreamWord)
-        → is_else from ≡ false → Matches env (row_of in_fork from) row one no_trees → may_have_children one ≡ false
+        → Matches env (row_of in_fork from) row one no_trees → may_have_children one ≡ false
         → IsStream in_fork env (worded (stream_text from) row) (stream one none none)
     passing : {in_fork : Bool} {env : Env} {row forms : BareTrees} {one : KindTree} {children : StreamTrees}
-        → (from : StreamWord) → is_else from ≡ false → Matches env (row_of in_fork from) row one forms
+        → (from : StreamWord) → Matches env (row_of in_fork from) row one forms
         → may_have_children one ≡ true → AreStreams (is_by from || in_fork) env forms children
         → IsStream in_fork env (worded (stream_text from) row) (stream one children none)
     -- `else` comes last

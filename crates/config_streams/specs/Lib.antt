@@ -1,4 +1,4 @@
-pub mod Shapes
+pub mod Sorts
 pub mod Table
 pub mod Given
 pub mod Sources

@@ -1,5 +1,5 @@
 -- Streams, and the streams below them.
-use Rattle.std.specs.Prelude.{ℕ, Bool, true, false, ◌||◌, if◌then◌else◌, List, [], ◌∷◌, drop, Option, Some, None}
+use Rattle.std.specs.Prelude.{ℕ, Bool, true, false, ◌&&◌, ◌||◌, if◌then◌else◌, List, [], ◌∷◌, drop, Option, Some, None}
 use Rattle.std.specs.Prelude.{Result, Ok, Err}
 use Rattle.std.specs.Str.{bytes_eq}
 use Rattle.sexp_read.specs.declared.piece.Bracket.TheVariants.{Round}
@@ -14,7 +14,7 @@ use Rattle.config_terms.specs.declared.fault.ConfigWhy.TheVariants as why
 use Rattle.config_terms.specs.declared.word.StreamWord.{StreamWord}
 use Rattle.config_terms.specs.declared.word.StreamWord.TheVariants as word
 use Rattle.config_terms.specs.Steps.{Fault, ◌>>=◌, start_of, at_most}
-use Rattle.config_terms.specs.Words.{stream_text, stream_word}
+use Rattle.config_terms.specs.Words.{stream_text, stream_word, else_text}
 use Rattle.config_terms.specs.Arguments.{Env, bound_value}
 use Rattle.config_streams.specs.Sources.{SourceTree, SourceTrees, source, with_source}
 use Rattle.config_streams.specs.Sources as sources
@@ -104,10 +104,6 @@ abbrev pub is_by_in : Option StreamWord → Bool
 is_by_in None = false
 is_by_in (Some one) = is_by one
 
-abbrev pub is_else : StreamWord → Bool
-is_else word.Else = true
-is_else _ = false
-
 -- a symbol is the stream `index`, by that word or as its value
 abbrev pub symbol_by : Option Bound → List ℕ → ℕ → Result Part Fault
 symbol_by None name start =
@@ -125,25 +121,24 @@ followed kind start own forms readings =
     then (all_read nothing (drop own readings) >>= λ below. Ok (stream_of kind start below))
     else (at_most own forms >>= λ over. Ok (stream_of kind start nothing))
 
--- the streams that get the rest, where they are allowed
-abbrev pub else_part : Bool → ℕ → Readings → Result Part Fault
-else_part may_else start readings =
-    if may_else then (all_read nothing readings >>= λ below. Ok (Rest below.children)) else Err (start, why.Form)
+-- the streams that get the rest
+abbrev pub rest_of : Readings → Result Part Fault
+rest_of readings = all_read nothing readings >>= λ below. Ok (Rest below.children)
 
--- A stream of the word, or the streams that get the rest. The truth values say whether `else` may be there, and whether
--- the form is below a `by`.
-unfoldable pub worded : Bool → Bool → Env → Option StreamWord → ℕ → FormTrees → Readings → Result Part Fault
-worded may_else in_fork env None start forms readings = Err (start, why.Form)
-worded may_else in_fork env (Some one) start forms readings =
-    if is_else one then else_part may_else start readings
-    else (read (row_of in_fork one) env start 0 forms >>= λ found. followed found.0 start found.1 forms readings)
+-- What a list of the name gives: a stream of this word, or the streams that get the rest. The truth values say whether
+-- `else` may be there, and whether the form is below a `by`.
+unfoldable pub worded : Bool → Bool → Env → List ℕ → Option StreamWord → ℕ → FormTrees → Readings → Result Part Fault
+worded may_else in_fork env name None start forms readings =
+    if may_else && bytes_eq name else_text then rest_of readings else Err (start, why.Form)
+worded may_else in_fork env name (Some one) start forms readings =
+    read (row_of in_fork one) env start 0 forms >>= λ found. followed found.0 start found.1 forms readings
 
 -- what a form is in the place of a stream, and the same of each of some forms
 unfoldable mutual
   pub part_at : Bool → Bool → Env → FormTree → Result Part Fault
   part_at may_else in_fork env (Single (form.Symbol name) start last) = symbol_by (bound_value name env) name start
   part_at may_else in_fork env (Group Round (also (Single (form.Symbol name) begin end) forms) start last) =
-      worded may_else in_fork env (stream_word name) start forms
+      worded may_else in_fork env name (stream_word name) start forms
       (parts_in (is_where_in (stream_word name)) (is_by_in (stream_word name) || in_fork) env forms)
   part_at may_else in_fork env f = Err (start_of f, why.Form)
 

@@ -10,47 +10,46 @@ use Rattle.pred_eval.specs.Tree as pred
 use Rattle.sexp_read.specs.declared.piece.Atom.TheVariants as atom
 use Rattle.sexp_read.specs.declared.piece.Bracket.TheVariants.{Curly}
 use Rattle.sexp_read.specs.Tree.{FormTree, FormTrees, Group}
-use Rattle.sexp_read.specs.Written.{BareTree, BareTrees, Leaf, Branch, and_trees, bare_trees}
+use Rattle.sexp_read.specs.Written.{BareTree, BareTrees, Leaf, Branch, and_trees}
 use Rattle.stream_plan.specs.declared.kinds.TheConstants.{MAX_SECS}
 use Rattle.stream_plan.specs.Tree.{KindTree}
 use Rattle.stream_plan.specs.Tree as kind
 use Rattle.config_terms.specs.declared.word.StreamWord.{StreamWord}
 use Rattle.config_terms.specs.declared.word.StreamWord.TheVariants as word
 use Rattle.config_terms.specs.Steps.{Fault, ◌>>=◌, nth, argument}
-use Rattle.config_terms.specs.Code.{later}
 use Rattle.config_terms.specs.Arguments.{Env, Argument, bound_value, bound_argument, argument_of}
 use Rattle.config_terms.specs.Arguments as given
-use Rattle.config_streams.specs.Shapes.{Shape, ValueOf, IsA, read_as}
-use Rattle.config_streams.specs.Shapes as a
+use Rattle.config_streams.specs.Sorts.{Sort, ValueOf, IsA, read_as}
+use Rattle.config_streams.specs.Sorts as a
 
 -- ---- rows
 
--- what the next form may look like
-pub data Look : Type 0 where
-  AMap : Look
-  ANumber : Look
+-- what the next form may be
+pub data Ahead : Type 0 where
+  AMap : Ahead
+  ANumber : Ahead
 
--- arguments in order: a kind follows from the values; which arguments come may follow from what the next form looks like
+-- arguments in order: the kind follows from their values, and which arguments come may follow from what is ahead
 pub data Row : Type 0 where
   gives : KindTree → Row
-  takes : (shape : Shape) → (ValueOf shape → Row) → Row
-  next_is : Look → Row → Row → Row
+  takes : (sort : Sort) → (ValueOf sort → Row) → Row
+  next_is : Ahead → Row → Row → Row
 
 -- one argument, and two
-abbrev one_of : (shape : Shape) → (ValueOf shape → KindTree) → Row
-one_of shape make = takes shape (λ a. gives (make a))
+abbrev one_of : (sort : Sort) → (ValueOf sort → KindTree) → Row
+one_of sort make = takes sort (λ a. gives (make a))
 
-abbrev two_of : (shape next : Shape) → (ValueOf shape → ValueOf next → KindTree) → Row
-two_of shape next make = takes shape (λ a. takes next (λ b. gives (make a b)))
+abbrev two_of : (sort next : Sort) → (ValueOf sort → ValueOf next → KindTree) → Row
+two_of sort next make = takes sort (λ a. takes next (λ b. gives (make a b)))
 
 -- a map of sets, or one set
 abbrev sets_of : (List Set → KindTree) → Row
 sets_of make =
     next_is AMap (one_of a.Sets make) (takes a.OneField (λ field. one_of (a.SetTo field) (λ set. make (set ∷ []))))
 
--- an argument that may be left out
-abbrev may_be : Look → (shape : Shape) → (Option (ValueOf shape) → KindTree) → Row
-may_be look shape make = next_is look (one_of shape (λ a. make (Some a))) (gives (make None))
+-- one argument that may be left out
+abbrev may_be : Ahead → (sort : Sort) → (Option (ValueOf sort) → KindTree) → Row
+may_be ahead sort make = next_is ahead (one_of sort (λ a. make (Some a))) (gives (make None))
 
 abbrev pub tag_rules : List (List ℕ) → Trees
 tag_rules [] = pred.none
@@ -80,7 +79,6 @@ row_of in_fork word.Index = gives kind.Index
 row_of in_fork word.Notice = one_of a.Text kind.Notice
 row_of in_fork word.Sdo = gives kind.Sdo
 row_of in_fork word.Where = one_of a.Rule kind.Where
-row_of in_fork word.Else = gives kind.Index
 row_of in_fork word.With = sets_of kind.With
 row_of in_fork word.Default = sets_of kind.Default
 row_of in_fork word.Tag = one_of a.Texts kind.Tag
@@ -102,7 +100,7 @@ row_of in_fork word.Tagged = one_of a.SomeTexts (λ tags. kind.Where (all_tagged
 row_of in_fork word.Over = one_of a.Number (λ number. kind.Where (Order Metric Greater number))
 row_of in_fork word.Under = one_of a.Number (λ number. kind.Where (Order Metric Less number))
 
--- ---- what the next form looks like
+-- ---- what the next form is
 
 abbrev pub is_number : Argument → Bool
 is_number (given.Number number) = true
@@ -112,51 +110,46 @@ abbrev pub is_map : FormTree → Bool
 is_map (Group Curly forms start last) = true
 is_map _ = false
 
-abbrev pub looks_so : Look → Env → FormTree → Bool
-looks_so AMap env f = is_map f
-looks_so ANumber env f = is_number (argument_of env f)
+abbrev pub is_so : Ahead → Env → FormTree → Bool
+is_so AMap env f = is_map f
+is_so ANumber env f = is_number (argument_of env f)
 
-abbrev pub looks_at : Look → Env → Option FormTree → Bool
-looks_at look env None = false
-looks_at look env (Some f) = looks_so look env f
+abbrev pub is_ahead : Ahead → Env → Option FormTree → Bool
+is_ahead ahead env None = false
+is_ahead ahead env (Some f) = is_so ahead env f
 
 -- the same of a form without its places
-abbrev pub bare_looks : Look → Env → BareTrees → Bool
-bare_looks AMap env (and_trees (Branch Curly entries) row) = true
-bare_looks ANumber env (and_trees (Leaf (atom.Number number)) row) = true
-bare_looks ANumber env (and_trees (Leaf (atom.Symbol name)) row) = is_number (bound_argument name (bound_value name env))
-bare_looks _ env row = false
+abbrev pub bare_ahead : Ahead → Env → BareTrees → Bool
+bare_ahead AMap env (and_trees (Branch Curly entries) row) = true
+bare_ahead ANumber env (and_trees (Leaf (atom.Number number)) row) = true
+bare_ahead ANumber env (and_trees (Leaf (atom.Symbol name)) row) =
+    is_number (bound_argument name (bound_value name env))
+bare_ahead _ env row = false
 
 -- ---- the grammar: the forms begin with arguments of the row, which make the kind, and these are left
 
 pub data Matches : Env → Row → BareTrees → KindTree → BareTrees → Type 0 where
   made : {env : Env} {one : KindTree} {rest : BareTrees} → Matches env (gives one) rest one rest
-  argued : {env : Env} {shape : Shape} {row : ValueOf shape → Row} {x : BareTree} {forms rest : BareTrees}
-      {one : KindTree} → (value : ValueOf shape) → IsA shape env x value → Matches env (row value) forms one rest
-      → Matches env (takes shape row) (and_trees x forms) one rest
-  there : {env : Env} {look : Look} {row other : Row} {forms rest : BareTrees} {one : KindTree}
-      → bare_looks look env forms ≡ true → Matches env row forms one rest → Matches env (next_is look row other) forms one rest
-  absent : {env : Env} {look : Look} {row other : Row} {forms rest : BareTrees} {one : KindTree}
-      → bare_looks look env forms ≡ false → Matches env other forms one rest
-      → Matches env (next_is look row other) forms one rest
+  taken : {env : Env} {sort : Sort} {row : ValueOf sort → Row} {x : BareTree} {forms rest : BareTrees}
+      {one : KindTree} → (value : ValueOf sort) → IsA sort env x value → Matches env (row value) forms one rest
+      → Matches env (takes sort row) (and_trees x forms) one rest
+  there : {env : Env} {ahead : Ahead} {row other : Row} {forms rest : BareTrees} {one : KindTree}
+      → bare_ahead ahead env forms ≡ true → Matches env row forms one rest
+      → Matches env (next_is ahead row other) forms one rest
+  absent : {env : Env} {ahead : Ahead} {row other : Row} {forms rest : BareTrees} {one : KindTree}
+      → bare_ahead ahead env forms ≡ false → Matches env other forms one rest
+      → Matches env (next_is ahead row other) forms one rest
 
 -- ---- what is read: the kind, and the number of its arguments
 
 -- the argument of a number is read so
-unfoldable pub argued_at : (shape : Shape) → Env → ℕ → ℕ → FormTrees → Result (ValueOf shape) Fault
-argued_at shape env start n forms = argument start n forms >>= read_as shape env
+unfoldable pub read_argument : (sort : Sort) → Env → ℕ → ℕ → FormTrees → Result (ValueOf sort) Fault
+read_argument sort env start n forms = argument start n forms >>= read_as sort env
 
 -- the forms after `n` arguments are read by the row, in a list that starts at the place
 abbrev pub read : Row → Env → ℕ → ℕ → FormTrees → Result (KindTree × ℕ) Fault
 read (gives one) env start n forms = Ok (one, n)
-read (takes shape row) env start n forms =
-    argued_at shape env start n forms >>= λ value. read (row value) env start (suc n) forms
-read (next_is look row other) env start n forms =
-    if looks_at look env (nth n forms) then read row env start n forms else read other env start n forms
-
--- such arguments are read, and these forms are left
-pub record IsRead (env : Env) (row : Row) (n : ℕ) (forms : FormTrees) (one : KindTree) (rest : BareTrees)
-    : Type 0 where
-  pub own : ℕ
-  pub is : (start : ℕ) → read row env start n forms ≡ Ok (one, own)
-  pub rest_are : bare_trees (later own forms) ≡ rest
+read (takes sort row) env start n forms =
+    read_argument sort env start n forms >>= λ value. read (row value) env start (suc n) forms
+read (next_is ahead row other) env start n forms =
+    if is_ahead ahead env (nth n forms) then read row env start n forms else read other env start n forms

@@ -14,7 +14,8 @@ use pred_eval::{Ordering, Rule, Rules};
 use std::alloc::Global;
 use stream_plan::{Kind, MAX_SECS};
 
-/// The kind of a stream that begins with the word, and the number of its arguments. `in_fork`: it is below a `by`.
+/// The kind of a stream that begins with the word, and the number of its arguments. `in_fork`: the stream is below a
+/// `by`.
 #[tactic(auto, unfolding(crate::specs::Table::row_of))]
 pub(crate) fn kind_of(
     alloc: Global,
@@ -25,13 +26,13 @@ pub(crate) fn kind_of(
     ensures { GivesAs made_as result (kind_in given.entry (row_of in_fork word)) }
 {
     match word {
-        StreamWord::Index | StreamWord::Else => Ok((Kind::Index, 0)),
+        StreamWord::Index => Ok((Kind::Index, 0)),
         StreamWord::Notice => Ok((Kind::Notice(given.text(alloc, 0)?), 1)),
         StreamWord::Sdo => Ok((Kind::Sdo, 0)),
         StreamWord::Where => Ok((Kind::Where(given.rule(alloc, 0)?), 1)),
-        StreamWord::With if given.map_stands(0) => Ok((Kind::With(given.sets(alloc, 0)?), 1)),
+        StreamWord::With if given.is_map_at(0) => Ok((Kind::With(given.sets(alloc, 0)?), 1)),
         StreamWord::With => Ok((Kind::With(one_set(alloc, given)?), 2)),
-        StreamWord::Default if given.map_stands(0) => Ok((Kind::Default(given.sets(alloc, 0)?), 1)),
+        StreamWord::Default if given.is_map_at(0) => Ok((Kind::Default(given.sets(alloc, 0)?), 1)),
         StreamWord::Default => Ok((Kind::Default(one_set(alloc, given)?), 2)),
         StreamWord::Tag => Ok((Kind::Tag(given.texts(alloc, 0)?), 1)),
         StreamWord::By => by(alloc, in_fork, given),
@@ -61,7 +62,7 @@ pub(crate) fn kind_of(
             let field = given.field(alloc, 1)?;
             Ok((Kind::Stable { secs, field }, 2))
         }
-        StreamWord::Coalesce if given.number_stands(0) => Ok((
+        StreamWord::Coalesce if given.is_number_at(0) => Ok((
             Kind::Coalesce {
                 secs: given.secs(0)?,
             },
@@ -111,7 +112,7 @@ fn by(alloc: Global, in_fork: bool, given: Given<'_>) -> Result<(Kind, usize), C
     ensures { GivesAs made_as result (kind_in given.entry (row_of in_fork StreamWord.By)) }
 {
     let fields = given.fields(alloc, 0)?;
-    if given.map_stands(1) {
+    if given.is_map_at(1) {
         let idle = Some(given.idle(most_idle(in_fork), 1)?);
         return Ok((Kind::By { fields, idle }, 2));
     }
@@ -123,7 +124,7 @@ fn changed(alloc: Global, given: Given<'_>) -> Result<(Kind, usize), ConfigFault
     ensures { GivesAs made_as result (kind_in given.entry (row_of false StreamWord.Changed)) }
 {
     let field = given.field(alloc, 0)?;
-    if given.map_stands(1) {
+    if given.is_map_at(1) {
         let init = Some(given.init(alloc, 1)?);
         return Ok((Kind::Changed { field, init }, 2));
     }

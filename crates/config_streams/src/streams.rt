@@ -7,7 +7,7 @@ ghost use Rattle.sexp_read.specs.Tree.{form_tree, form_trees};
 ghost use Rattle.config_terms.specs.Steps.{GivesAs};
 ghost use Rattle.config_terms.specs.Words.{stream_word as stream_word_of};
 ghost use Rattle.config_terms.specs.Arguments.{bound_value};
-ghost use Rattle.config_streams.specs.Streams.{nothing, nowhere, stream_of as stream_made, with_part, all_read, is_where_in, is_by_in, with_one, is_else as is_else_of, symbol_by, followed as followed_by, worded, else_part as else_part_of, part_at as part_from, parts_in as readings_of};
+ghost use Rattle.config_streams.specs.Streams.{nothing, nowhere, stream_of as stream_made, with_part, all_read, is_where_in, is_by_in, with_one, symbol_by, followed as followed_by, worded, rest_of, part_at as part_from, parts_in as readings_of};
 ghost use Rattle.config_streams.specs.Made.{located_in, below_in, part_in, source_tree};
 
 use crate::given::Given;
@@ -145,12 +145,6 @@ fn may_have_children(kind: &Kind) -> bool
     !matches!(kind, Kind::Index | Kind::Notice(_))
 }
 
-fn is_else(word: StreamWord) -> bool
-    ensures { result ≡ is_else_of word }
-{
-    matches!(word, StreamWord::Else)
-}
-
 /// The stream that a symbol is.
 fn symbol_part(
     alloc: Global,
@@ -200,39 +194,37 @@ fn call_part(
     start: usize,
     forms: &[Form],
 ) -> Result<Part, ConfigFault>
-    ensures { GivesAs part_in result (worded position.may_else position.in_fork env.now
+    ensures { GivesAs part_in result (worded position.may_else position.in_fork env.now name.now
         (stream_word_of name.now) start (form_trees forms.now)
         (readings_of (is_where_in (stream_word_of name.now))
         (is_by_in (stream_word_of name.now) || position.in_fork) env.now (form_trees forms.now))) }
 {
     let Some(word) = stream_word(name) else {
+        if position.may_else && is(name.as_bytes(), b"else") {
+            return rest_part(alloc, env, position.in_fork, forms);
+        }
         return Err(refused(start, ConfigWhy::Form));
     };
-    let below = position.below(word);
-    if is_else(word) {
-        return else_part(alloc, env, position.may_else, below, start, forms);
-    }
     let given = Given { env, start, forms };
     let (kind, own) = kind_of(alloc, word, position.in_fork, given)?;
-    followed(alloc, env, kind, below, start, own, forms)
+    followed(alloc, env, kind, position.below(word), start, own, forms)
 }
 
-/// The streams that get the rest, if they may be there. Their forms are at `position`.
+/// The streams that get the rest, of these forms.
 #[cycle(parts)]
-fn else_part(
+fn rest_part(
     alloc: Global,
     env: &[Binding],
-    may_else: bool,
-    position: Position,
-    start: usize,
+    in_fork: bool,
     forms: &[Form],
 ) -> Result<Part, ConfigFault>
-    ensures { GivesAs part_in result (else_part_of may_else start
-        (readings_of position.may_else position.in_fork env.now (form_trees forms.now))) }
+    ensures { GivesAs part_in result
+        (rest_of (readings_of false in_fork env.now (form_trees forms.now))) }
 {
-    if !may_else {
-        return Err(refused(start, ConfigWhy::Form));
-    }
+    let position = Position {
+        may_else: false,
+        in_fork,
+    };
     let below = parts_onto(alloc, env, forms, position, Below::fresh(alloc))?;
     Ok(Part::Rest(below.children))
 }

@@ -1,5 +1,5 @@
 -- What is read as a predicate is one of the grammar.
-use Rattle.std.proofs.Common.{◌≡◌, ℕ, ℤ, Bool, true, false, ◌||◌, codes, List, [], ◌∷◌, if◌then◌else◌, Option, Some}
+use Rattle.std.proofs.Common.{◌≡◌, ℕ, ℤ, Bool, true, false, ◌||◌, codes, List, [], ◌∷◌, Option, Some}
 use Rattle.std.proofs.Common.{None, Result, Ok, refl, ap, sym, ◌∙◌, subst}
 use Rattle.std.proofs.lemmas.Slice.Eq.{bytes_eq-Decides}
 use Rattle.std.specs.Str.{bytes_eq}
@@ -7,19 +7,18 @@ use Rattle.ev_types.specs.declared.field.Field.{Field}
 use Rattle.ev_types.specs.declared.value.Value.TheVariants as value
 use Rattle.ev_types.specs.Names.{named_field, protocol_field}
 use Rattle.pred_eval.specs.declared.rule.Ordering.{Ordering}
-use Rattle.pred_eval.specs.declared.rule.Ordering.TheVariants.{Less, LessEqual, Greater, GreaterEqual}
 use Rattle.pred_eval.specs.Tree.{Tree, Trees, Always, Never, Not, All, Any, Tagged, Equal, Order, Wild, Search}
 use Rattle.pred_eval.specs.Tree as pred
 use Rattle.sexp_read.specs.declared.piece.Atom.TheVariants as atom
 use Rattle.sexp_read.specs.declared.piece.Bracket.TheVariants.{Round, Square, Curly}
 use Rattle.sexp_read.specs.Tree.{FormTree, FormTrees, Single, Group, none, also}
-use Rattle.sexp_read.specs.Written.{BareTree, BareTrees, and_trees, bare_tree, bare_trees, listed}
+use Rattle.sexp_read.specs.Written.{BareTree, BareTrees, Branch, and_trees, bare_tree, bare_trees, listed}
 use Rattle.config_terms.specs.declared.binding.Bound.{Bound}
 use Rattle.config_terms.specs.declared.binding.Bound.TheVariants as bound
 use Rattle.config_terms.specs.declared.word.RuleWord.{RuleWord}
 use Rattle.config_terms.specs.declared.word.RuleWord.TheVariants as word
 use Rattle.config_terms.specs.Steps.{Fault, ◌>>=◌, start_of, argument, at_most}
-use Rattle.config_terms.specs.Words.{rule_text, rule_word, joining_word, comparing_word, true_text, false_text}
+use Rattle.config_terms.specs.Words.{rule_text, rule_word, true_text, false_text}
 use Rattle.config_terms.specs.Words.{nil_text}
 use Rattle.config_terms.specs.Arguments.{Env, bound_value, Argument, Text, Pattern, Number, Keyword, Index, Unbound}
 use Rattle.config_terms.specs.Arguments.{Forms, bound_argument, argument_of, taken, text_in, number_in, value_in}
@@ -32,8 +31,9 @@ use Rattle.config_terms.specs.Grammar.{a_number, a_keyword, a_name, IsValue, tex
 use Rattle.config_terms.specs.Grammar.{IsTested, bare, keyed, IsPredicate, always, never, never_nil, all_parts}
 use Rattle.config_terms.specs.Grammar.{any_part, negated, tagged, equal, unequal, compared, like, holds, found}
 use Rattle.config_terms.specs.Grammar.{ArePredicates, no_parts, more_parts}
-use Rattle.config_terms.proofs.Outcomes.{OkGood, SomeGood, Any_, bind_good, any_good, weaker, ok_if, some_if, some_or}
+use Rattle.config_terms.proofs.Outcomes.{OkGood, SomeGood, Any_, bind_good, any_good, weaker, ok_if, some_if}
 use Rattle.config_terms.proofs.Outcomes.{some_from, fitting_good}
+use Rattle.config_terms.proofs.NameLaws.{rule_named}
 use Rattle.config_terms.proofs.GrammarRead.{join, join_first, join_none, join_rule, all_joined, any_joined, order_text}
 
 -- ---- arguments
@@ -52,7 +52,7 @@ Meaning env form (Number number) = IsLiteral env form (bound.Number number)
 Meaning env form (Keyword key) = IsLiteral env form (bound.Keyword key)
 Meaning env form Index = Unit {0}
 Meaning env form (Unbound name) = (form ≡ symbol name) × (bound_value name env ≡ None)
-Meaning env form (Forms bracket forms) = Unit {0}
+Meaning env form (Forms bracket forms) = form ≡ Branch bracket (bare_trees forms)
 
 bound_meaning : (env : Env) (name : List ℕ) (held : Option Bound) → bound_value name env ≡ held
     → Meaning env (symbol name) (bound_argument name held)
@@ -70,7 +70,7 @@ meaning env (Single (atom.Pattern text) start last) = a_pattern
 meaning env (Single (atom.Number number) start last) = a_number
 meaning env (Single (atom.Keyword key) start last) = a_keyword
 meaning env (Single (atom.Symbol name) start last) = bound_meaning env name (bound_value name env) refl
-meaning env (Group bracket forms start last) = tt
+meaning env (Group bracket forms start last) = refl
 
 pub taken_means : {A : Type 0} (P : A → Type 0) (test : Argument → Option A) (env : Env) (f : FormTree)
     → ((given : Argument) → Meaning env (bare_tree f) given → SomeGood P (test given)) → OkGood P (taken test env f)
@@ -101,10 +101,7 @@ value_in_means env form (Number number) means = number_value means
 value_in_means env form (Unbound name) means =
     some_if (IsValue env form) (bytes_eq name nil_text) (Some value.Nil) None
     (λ is. nil_means env form name means.0 means.1 ((bytes_eq-Decides name nil_text).0 is)) (λ _. tt)
-value_in_means env form (Pattern text) means = tt
-value_in_means env form (Keyword key) means = tt
-value_in_means env form Index means = tt
-value_in_means env form (Forms bracket forms) means = tt
+value_in_means env form given means = tt
 
 pub text_means : (env : Env) (f : FormTree) → OkGood (TextIs env (bare_tree f)) (text_at env f)
 unfolding text_at
@@ -323,23 +320,6 @@ word_means env word.Like start forms all = like_means env start forms
 abbrev Spells : List ℕ → RuleWord → Type 0
 Spells name one = name ≡ rule_text one
 
-spells_if : (name : List ℕ) (one : RuleWord) (other : Option RuleWord) → SomeGood (Spells name) other
-    → SomeGood (Spells name) (if bytes_eq name (rule_text one) then Some one else other)
-spells_if name one other rest =
-    some_if (Spells name) (bytes_eq name (rule_text one)) (Some one) other
-    (λ is. (bytes_eq-Decides name (rule_text one)).0 is) (λ _. rest)
-
-word_spells : (name : List ℕ) → SomeGood (Spells name) (rule_word name)
-unfolding rule_word joining_word comparing_word
-word_spells name =
-    some_or (Spells name) (joining_word name) (comparing_word name)
-    (spells_if name word.And _
-    (spells_if name word.Or _
-    (spells_if name word.Not _ (spells_if name word.Tagged _ (spells_if name word.Like _ tt)))))
-    (spells_if name word.Equal _
-    (spells_if name word.NotEqual _ (spells_if name (word.Order Less) _ (spells_if name (word.Order LessEqual) _
-    (spells_if name (word.Order Greater) _ (spells_if name (word.Order GreaterEqual) _ tt))))))
-
 call_means : (env : Env) (name : List ℕ) (start : ℕ) (forms : FormTrees) → AllMean env forms → (one : Option RuleWord)
     → SomeGood (Spells name) one → (field : Option Field) → protocol_field name ≡ field
     → OkGood (IsPredicate env (worded name (bare_trees forms)))
@@ -387,7 +367,7 @@ mutual
   pub predicate_means : (env : Env) (f : FormTree) → OkGood (IsPredicate env (bare_tree f)) (rule_at env f)
   predicate_means env (Single (atom.Symbol name) start last) = symbol_means env name start
   predicate_means env (Group Round (also (Single (atom.Symbol name) begin end) forms) start last) =
-      call_means env name start forms (all_mean env forms) (rule_word name) (word_spells name) (protocol_field name)
+      call_means env name start forms (all_mean env forms) (rule_word name) (rule_named name) (protocol_field name)
       refl
   predicate_means env (Group Round (also (Single (atom.Keyword name) begin end) forms) start last) =
       lookup_means env name start forms (named_field name) refl

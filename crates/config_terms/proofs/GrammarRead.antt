@@ -19,7 +19,7 @@ use Rattle.config_terms.specs.declared.binding.Bound.TheVariants as bound
 use Rattle.config_terms.specs.declared.word.RuleWord.{RuleWord}
 use Rattle.config_terms.specs.declared.word.RuleWord.TheVariants as word
 use Rattle.config_terms.specs.Steps.{Fault, argument, at_most}
-use Rattle.config_terms.specs.Words.{rule_text, rule_word, joining_word, comparing_word}
+use Rattle.config_terms.specs.Words.{rule_text, rule_word}
 use Rattle.config_terms.specs.Arguments.{Env, bound_value, Argument, Text, Number, bound_argument, argument_of, text_at}
 use Rattle.config_terms.specs.Arguments.{field_at, number_at, value_at}
 use Rattle.config_terms.specs.Rules.{Head, Word, Field_, rule_field_at, rule_head, Readings, with_rule, all_read}
@@ -87,7 +87,7 @@ tested_read _ field (keyed {name = name} is) f h = let one = single_of f (atom.K
 -- ---- heads
 
 word_head : (one : RuleWord) (begin end : ℕ) → rule_head (Single (atom.Symbol (rule_text one)) begin end) ≡ Word one
-unfolding rule_head rule_word joining_word comparing_word
+unfolding rule_head rule_word
 word_head word.And begin end = refl
 word_head word.Or begin end = refl
 word_head word.Not begin end = refl
@@ -116,7 +116,7 @@ wordless_if name text field other no_word rest =
     (λ is. ap rule_word ((bytes_eq-Decides name text).0 is) ∙ no_word) (λ _. rest)
 
 fields_wordless : (name : List ℕ) → SomeGood {A = Field} (λ _. rule_word name ≡ None) (protocol_field name)
-unfolding protocol_field rule_word joining_word comparing_word
+unfolding protocol_field rule_word
 fields_wordless name =
     wordless_if name (codes "host") _ _ refl
     (wordless_if name (codes "service") _ _ refl (wordless_if name (codes "state") _ _ refl

@@ -1,17 +1,15 @@
 -- Forms are read as the seconds in the map of a `by` exactly where they represent these.
-use Rattle.std.proofs.Common.{◌≡◌, ◌≤◌, ℕ, pos, codes, Bool, true, false, Option, Some, None, Result, Ok, refl, ap}
+use Rattle.std.proofs.Common.{◌≡◌, ◌≤◌, ℕ, pos, codes, true, Ok, refl, ap}
 use Rattle.std.proofs.Common.{subst, ◌∙◌}
 use Rattle.std.proofs.lemmas.Slice.Eq.{bytes_eq-Decides}
-use Rattle.std.specs.Str.{bytes_eq}
 use Rattle.sexp_read.specs.Tree.{FormTree, FormTrees, none, also}
 use Rattle.sexp_read.specs.Written.{BareTree, BareTrees, bare_tree, bare_trees}
 use Rattle.config_terms.specs.declared.binding.Bound.TheVariants as bound
 use Rattle.config_terms.specs.Steps.{start_of}
 use Rattle.config_terms.specs.Words.{idle_text}
-use Rattle.config_terms.specs.Arguments.{Env, Argument, Text, Pattern, Number, Keyword, Index, Unbound, Forms}
+use Rattle.config_terms.specs.Arguments.{Env, Argument, Number, Keyword}
 use Rattle.config_terms.specs.Arguments.{argument_of, is_idle_key, idle_number, idle_in}
-use Rattle.config_terms.specs.Grammar.{IsLiteral}
-use Rattle.config_terms.specs.Terms.{IsRanged, a_ranged, IsIdle, an_idle, IdlesAreRead}
+use Rattle.config_terms.specs.Terms.{IsRanged, a_ranged, IsIdle, only, IdlesAreRead}
 use Rattle.config_terms.proofs.Outcomes.{OkGood, weaker, ok_if, ok_read}
 use Rattle.config_terms.proofs.GrammarRead.{literal_read, two_of}
 use Rattle.config_terms.proofs.GrammarOnly.{Meaning, meaning}
@@ -29,7 +27,7 @@ pair_read most place secs env key f named given low high =
 
 idle_read : (most : ℕ) (env : Env) (row : BareTrees) (secs : ℕ) → IsIdle most env row secs → (place : ℕ)
     → (forms : FormTrees) → bare_trees forms ≡ row → idle_in most place env forms ≡ Ok secs
-idle_read most env _ secs (an_idle {key = key} {n = n} named (a_ranged literal low high)) place forms h =
+idle_read most env _ secs (only {key = key} {v = n} named (a_ranged literal low high)) place forms h =
     let two = two_of forms key n h in
     ap (idle_in most place env) two.are
     ∙ pair_read most place secs env two.a two.b
@@ -41,22 +39,12 @@ idle_read most env _ secs (an_idle {key = key} {n = n} named (a_ranged literal l
 key_means : (env : Env) (form : BareTree) (given : Argument) → Meaning env form given → is_idle_key given ≡ true
     → KeyIs env form (codes "idle")
 key_means env form (Keyword key) means is = subst (KeyIs env form) ((bytes_eq-Decides key idle_text).0 is) means
-key_means env form (Text text) means is = cc
-key_means env form (Pattern text) means is = cc
-key_means env form (Number number) means is = cc
-key_means env form Index means is = cc
-key_means env form (Unbound name) means is = cc
-key_means env form (Forms bracket forms) means is = cc
+key_means env form given means is = cc
 
 number_means : (most place start : ℕ) (env : Env) (form : BareTree) (given : Argument) → Meaning env form given
     → OkGood (IsRanged 1 most env form) (idle_number most place start given)
 number_means most place start env form (Number number) means = ranged_means 1 most start env form number means
-number_means most place start env form (Text text) means = tt
-number_means most place start env form (Pattern text) means = tt
-number_means most place start env form (Keyword key) means = tt
-number_means most place start env form Index means = tt
-number_means most place start env form (Unbound name) means = tt
-number_means most place start env form (Forms bracket forms) means = tt
+number_means most place start env form given means = tt
 
 idle_means : (most : ℕ) (env : Env) (place : ℕ) (forms : FormTrees)
     → OkGood (IsIdle most env (bare_trees forms)) (idle_in most place env forms)
@@ -67,7 +55,7 @@ idle_means most env place (also key (also f none)) =
     let Q = IsIdle most env (bare_trees (also key (also f none))) in
     ok_if Q (is_idle_key (argument_of env key)) _ _
     (λ is. weaker (IsRanged 1 most env (bare_tree f)) Q (idle_number most place (start_of f) (argument_of env f))
-    (λ secs ranged. an_idle (key_means env (bare_tree key) (argument_of env key) (meaning env key) is) ranged)
+    (λ secs ranged. only (key_means env (bare_tree key) (argument_of env key) (meaning env key) is) ranged)
     (number_means most place (start_of f) env (bare_tree f) (argument_of env f) (meaning env f)))
     (λ _. tt)
 idle_means most env place (also key (also f (also other forms))) = tt

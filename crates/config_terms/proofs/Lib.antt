@@ -3,10 +3,12 @@ pub mod EntryLaws
 pub mod RuleLaws
 pub mod BareForms
 pub mod Outcomes
+pub mod NameLaws
 pub mod GrammarRead
 pub mod GrammarOnly
 pub mod GrammarLaws
 pub mod TermLaws
+pub mod RowLaws
 pub mod VectorLaws
 pub mod SetLaws
 pub mod IdleLaws

@@ -1,6 +1,5 @@
 -- What holds of what is read, where it is not refused.
 use Rattle.std.proofs.Common.{◌≡◌, ℕ, Bool, true, false, cond, Option, Some, None, Result, Ok, Err, refl, subst}
-use Rattle.std.specs.Option.{option_or}
 use Rattle.config_terms.specs.Steps.{Fault, ◌>>=◌}
 use Rattle.config_terms.specs.Arguments.{Argument, fitting}
 
@@ -39,13 +38,17 @@ pub some_if : {A : Type 0} (P : A → Type 0) (test : Bool) (x y : Option A) →
 some_if P true x y first second = first refl
 some_if P false x y first second = second refl
 
-pub some_or : {A : Type 0} (P : A → Type 0) (x y : Option A) → SomeGood P x → SomeGood P y → SomeGood P (option_or x y)
-some_or P (Some a) y first second = first
-some_or P None y first second = second
+pub some_as : {A : Type 0} (P Q : A → Type 0) (x : Option A) → ((a : A) → P a → Q a) → SomeGood P x → SomeGood Q x
+some_as P Q (Some a) turned good = turned a good
+some_as P Q None turned good = tt
 
 pub some_from : {A : Type 0} (P : A → Type 0) (x : Option A) → ((a : A) → x ≡ Some a → P a) → SomeGood P x
 some_from P (Some a) h = h a refl
 some_from P None h = tt
+
+pub ok_from : {A : Type 0} (P : A → Type 0) (x : Result A Fault) → ((a : A) → x ≡ Ok a → P a) → OkGood P x
+ok_from P (Ok a) h = h a refl
+ok_from P (Err fault) h = tt
 
 pub fitting_good : {A : Type 0} (P : A → Type 0) (place : ℕ) (given : Argument) (found : Option A) → SomeGood P found
     → OkGood P (fitting place given found)

@@ -1,5 +1,5 @@
 -- Forms are read as a set, as the sets of a map or as the one value of a map exactly where they represent these.
-use Rattle.std.proofs.Common.{◌≡◌, ◌≢◌, ℕ, codes, Bool, true, false, ◌&&◌, List, [], ◌∷◌, ◌++◌, Option, Some, None, Ok}
+use Rattle.std.proofs.Common.{◌≡◌, ◌≢◌, ◌↔◌, ℕ, codes, Bool, true, false, ◌&&◌, List, [], ◌∷◌, ◌++◌, Option, Some, None, Result, Ok}
 use Rattle.std.proofs.Common.{refl, ap, sym, subst, ◌∙◌, append_assoc, cond}
 use Rattle.std.proofs.lemmas.Bool.{or_parts, or_from, false_from_ne_true}
 use Rattle.std.proofs.lemmas.List.{append-nil}
@@ -9,25 +9,24 @@ use Rattle.std.specs.Str.{bytes_eq}
 use Rattle.ev_types.specs.declared.field.Field.{Field}
 use Rattle.ev_types.specs.declared.field.Field.TheVariants as field
 use Rattle.ev_types.specs.declared.settings.Set.{Set}
-use Rattle.ev_types.specs.declared.value.Value.{Value}
 use Rattle.ev_types.specs.Names.{field_name, named_field, protocol_field, is_hidden}
 use Rattle.ev_types.specs.Set.{fits}
 use Rattle.sexp_read.specs.Tree.{FormTree, FormTrees, none, also}
 use Rattle.sexp_read.specs.Written.{BareTree, BareTrees, and_trees, bare_tree, bare_trees}
 use Rattle.config_terms.specs.declared.binding.Bound.TheVariants as bound
-use Rattle.config_terms.specs.Steps.{start_of}
+use Rattle.config_terms.specs.Steps.{Fault, start_of}
 use Rattle.config_terms.specs.Words.{same_field, init_text}
 use Rattle.config_terms.specs.Arguments.{Env, Argument, Keyword, argument_of, keyword_in, keyword_at, field_at}
 use Rattle.config_terms.specs.Arguments.{value_at, is_ttl_field, is_number, fitted, set_at, has_field, new_field}
 use Rattle.config_terms.specs.Arguments.{new_field_at, sets_from, only_key, only_key_at, one_entry}
 use Rattle.config_terms.specs.Grammar.{IsLiteral, IsValue}
-use Rattle.config_terms.specs.Terms.{IsField, a_field, IsSet, a_set, IsUnset, AreSets, no_sets, more_sets, IsInit}
-use Rattle.config_terms.specs.Terms.{an_init, SetsAreRead, SetMapsAreRead, InitsAreRead}
+use Rattle.config_terms.specs.Terms.{IsField, a_field, IsSet, a_set, IsUnset, AreSets, no_sets, more_sets, IsOnly}
+use Rattle.config_terms.specs.Terms.{only, SetsAreRead, SetMapsAreRead, InitsAreRead}
 use Rattle.config_terms.proofs.BareForms.{also_of, none_of}
-use Rattle.config_terms.proofs.Outcomes.{OkGood, SomeGood, Any_, bind_good, any_good, weaker, ok_if, ok_read}
+use Rattle.config_terms.proofs.Outcomes.{OkGood, SomeGood, Any_, bind_good, any_good, weaker, ok_if, ok_read, ok_from}
 use Rattle.config_terms.proofs.GrammarRead.{literal_read, value_read, two_of}
 use Rattle.config_terms.proofs.GrammarOnly.{Meaning, taken_means, value_means}
-use Rattle.config_terms.proofs.TermLaws.{field_read, field_means}
+use Rattle.config_terms.proofs.TermLaws.{values_are_read, field_read, field_means}
 
 -- ---- one set
 
@@ -293,18 +292,25 @@ pub keyword_read : (env : Env) (form : BareTree) (name : List ℕ) → KeyIs env
     → bare_tree f ≡ form → keyword_at env f ≡ Ok name
 keyword_read env form name is f h = keyword_found env f name (literal_read env form (bound.Keyword name) is f h)
 
-entry_is : (env : Env) (place : ℕ) (key f : FormTree) (held : Value) → keyword_at env key ≡ Ok (codes "init")
-    → value_at env f ≡ Ok held → one_entry init_text value_at place env None (also key (also f none)) ≡ Ok held
+entry_is : {A : Type 0} (wanted : List ℕ) (read : Env → FormTree → Result A Fault) (env : Env) (place : ℕ)
+    (key f : FormTree) (a : A) → keyword_at env key ≡ Ok wanted → read env f ≡ Ok a
+    → one_entry wanted read place env None (also key (also f none)) ≡ Ok a
 unfolding one_entry only_key_at
-entry_is env place key f held first second = rw (first, second) refl
+entry_is wanted read env place key f a first second =
+    rw (first, (bytes_eq-Decides wanted wanted).1 refl, second) refl
 
-init_read : (env : Env) (row : BareTrees) (held : Value) → IsInit env row held → (place : ℕ) (forms : FormTrees)
-    → bare_trees forms ≡ row → one_entry init_text value_at place env None forms ≡ Ok held
-init_read env _ held (an_init {key = key} {v = v} literal is) place forms h =
+-- a form is read as each value exactly where it represents it
+abbrev AreRead : {A : Type 0} → (Env → BareTree → A → Type 0) → (Env → FormTree → Result A Fault) → Type 0
+AreRead {A} Is read = (env : Env) (f : FormTree) (a : A) → Is env (bare_tree f) a ↔ (read env f ≡ Ok a)
+
+only_read : {A : Type 0} (wanted : List ℕ) (Is : Env → BareTree → A → Type 0) (read : Env → FormTree → Result A Fault)
+    → AreRead Is read → (env : Env) (row : BareTrees) (a : A) → IsOnly wanted Is env row a
+    → (place : ℕ) (forms : FormTrees) → bare_trees forms ≡ row → one_entry wanted read place env None forms ≡ Ok a
+only_read wanted Is read reads env _ a (only {key = key} {v = v} literal is) place forms h =
     let two = two_of forms key v h in
-    ap (one_entry init_text value_at place env None) two.are
-    ∙ entry_is env place two.a two.b held (keyword_read env key (codes "init") literal two.a two.a_is)
-    (value_read env v held is two.b two.b_is)
+    ap (one_entry wanted read place env None) two.are
+    ∙ entry_is wanted read env place two.a two.b a (keyword_read env key wanted literal two.a two.a_is)
+    ((reads env two.b a).0 (subst (λ (t : BareTree). Is env t a) (sym two.b_is) is))
 
 abbrev Wanted : Env → BareTree → List ℕ → Unit {0} → Type 0
 Wanted env form wanted known = KeyIs env form wanted
@@ -328,38 +334,44 @@ second_key env wanted f =
     bind_good Any_ Never_ (keyword_at env f) (only_key wanted true (start_of f)) (any_good (keyword_at env f))
     (λ name _. ok_if Never_ (bytes_eq name wanted) _ _ (λ _. tt) (λ _. tt))
 
-entries_end : (env : Env) (place : ℕ) (P : Value → Type 0) (held : Value) (key : FormTree) (forms : FormTrees)
-    → OkGood P (one_entry init_text value_at place env (Some held) (also key forms))
+entries_end : {A : Type 0} (wanted : List ℕ) (read : Env → FormTree → Result A Fault) (env : Env) (place : ℕ)
+    (P : A → Type 0) (a : A) (key : FormTree) (forms : FormTrees)
+    → OkGood P (one_entry wanted read place env (Some a) (also key forms))
 unfolding one_entry
-entries_end env place P held key none =
-    bind_good Never_ P (only_key_at init_text true env key) _ (second_key env init_text key)
-    (λ known never. absurd never)
-entries_end env place P held key (also f forms) =
-    bind_good Never_ P (only_key_at init_text true env key) _ (second_key env init_text key)
-    (λ known never. absurd never)
+entries_end wanted read env place P a key none =
+    bind_good Never_ P (only_key_at wanted true env key) _ (second_key env wanted key) (λ known never. absurd never)
+entries_end wanted read env place P a key (also f forms) =
+    bind_good Never_ P (only_key_at wanted true env key) _ (second_key env wanted key) (λ known never. absurd never)
 
-init_means : (env : Env) (place : ℕ) (forms : FormTrees)
-    → OkGood (IsInit env (bare_trees forms)) (one_entry init_text value_at place env None forms)
+only_means : {A : Type 0} (wanted : List ℕ) (Is : Env → BareTree → A → Type 0) (read : Env → FormTree → Result A Fault)
+    → AreRead Is read → (env : Env) (place : ℕ) (forms : FormTrees)
+    → OkGood (IsOnly wanted Is env (bare_trees forms)) (one_entry wanted read place env None forms)
 unfolding one_entry
-init_means env place none = tt
-init_means env place (also key none) =
-    bind_good Any_ (IsInit env (bare_trees (also key none))) (only_key_at init_text false env key) _
-    (any_good (only_key_at init_text false env key)) (λ known _. tt)
-init_means env place (also key (also f none)) =
-    let Q = IsInit env (bare_trees (also key (also f none))) in
-    bind_good (Wanted env (bare_tree key) init_text) Q (only_key_at init_text false env key) _
-    (first_key env init_text key) (λ known is.
-    bind_good (IsValue env (bare_tree f)) Q (value_at env f) _ (value_means env f) (λ held means. an_init is means))
-init_means env place (also key (also f (also other forms))) =
-    let Q = IsInit env (bare_trees (also key (also f (also other forms)))) in
-    bind_good Any_ Q (only_key_at init_text false env key) _ (any_good (only_key_at init_text false env key))
+only_means wanted Is read reads env place none = tt
+only_means wanted Is read reads env place (also key none) =
+    bind_good Any_ (IsOnly wanted Is env (bare_trees (also key none))) (only_key_at wanted false env key) _
+    (any_good (only_key_at wanted false env key)) (λ known _. tt)
+only_means wanted Is read reads env place (also key (also f none)) =
+    let Q = IsOnly wanted Is env (bare_trees (also key (also f none))) in
+    bind_good (Wanted env (bare_tree key) wanted) Q (only_key_at wanted false env key) _ (first_key env wanted key)
+    (λ known is.
+    bind_good (Is env (bare_tree f)) Q (read env f) _
+    (ok_from (Is env (bare_tree f)) (read env f) (λ a at. (reads env f a).1 at)) (λ a means. only is means))
+only_means wanted Is read reads env place (also key (also f (also other forms))) =
+    let Q = IsOnly wanted Is env (bare_trees (also key (also f (also other forms)))) in
+    bind_good Any_ Q (only_key_at wanted false env key) _ (any_good (only_key_at wanted false env key))
     (λ known _.
-    bind_good Any_ Q (value_at env f) _ (any_good (value_at env f))
-    (λ held _. entries_end env place Q held other forms))
+    bind_good Any_ Q (read env f) _ (any_good (read env f))
+    (λ a _. entries_end wanted read env place Q a other forms))
+
+pub only_are_read : {A : Type 0} (wanted : List ℕ) (Is : Env → BareTree → A → Type 0)
+    (read : Env → FormTree → Result A Fault) → AreRead Is read → (env : Env) (place : ℕ) (forms : FormTrees) (a : A)
+    → IsOnly wanted Is env (bare_trees forms) a ↔ (one_entry wanted read place env None forms ≡ Ok a)
+only_are_read wanted Is read reads env place forms a = (
+  λ is. only_read wanted Is read reads env (bare_trees forms) a is place forms refl,
+  λ is. ok_read (IsOnly wanted Is env (bare_trees forms)) (one_entry wanted read place env None forms) a is
+      (only_means wanted Is read reads env place forms),
+)
 
 pub inits_are_read : InitsAreRead
-inits_are_read env place forms held = (
-  (λ is. init_read env (bare_trees forms) held is place forms refl),
-  (λ is. ok_read (IsInit env (bare_trees forms)) (one_entry init_text value_at place env None forms) held is
-      (init_means env place forms)),
-)
+inits_are_read = only_are_read init_text IsValue value_at values_are_read

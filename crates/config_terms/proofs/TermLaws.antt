@@ -5,7 +5,7 @@ use Rattle.ev_types.specs.Names.{named_field}
 use Rattle.sexp_read.specs.Tree.{FormTree}
 use Rattle.sexp_read.specs.Written.{BareTree, bare_tree}
 use Rattle.config_terms.specs.declared.binding.Bound.TheVariants as bound
-use Rattle.config_terms.specs.Arguments.{Env, Argument, Text, Pattern, Number, Keyword, Index, Unbound, Forms}
+use Rattle.config_terms.specs.Arguments.{Env, Argument, Keyword}
 use Rattle.config_terms.specs.Arguments.{argument_of, field_in, text_at, number_at, value_at, field_at}
 use Rattle.config_terms.specs.Grammar.{IsValue}
 use Rattle.config_terms.specs.Terms.{IsField, a_field, TextsAreRead, NumbersAreRead, ValuesAreRead, FieldsAreRead}
@@ -46,12 +46,7 @@ field_in_means : (env : Env) (form : BareTree) (given : Argument) → Meaning en
     → SomeGood (IsField env form) (field_in given)
 field_in_means env form (Keyword name) means =
     some_from (IsField env form) (named_field name) (λ field is. a_field means is)
-field_in_means env form (Text text) means = tt
-field_in_means env form (Pattern text) means = tt
-field_in_means env form (Number number) means = tt
-field_in_means env form Index means = tt
-field_in_means env form (Unbound name) means = tt
-field_in_means env form (Forms bracket forms) means = tt
+field_in_means env form given means = tt
 
 pub field_means : (env : Env) (f : FormTree) → OkGood (IsField env (bare_tree f)) (field_at env f)
 unfolding field_at

@@ -19,7 +19,7 @@ use Rattle.config_terms.specs.declared.binding.Bound.{Bound}
 use Rattle.config_terms.specs.declared.binding.Bound.TheVariants as bound
 use Rattle.config_terms.specs.declared.fault.ConfigWhy.{ConfigWhy}
 use Rattle.config_terms.specs.declared.fault.ConfigWhy.TheVariants as why
-use Rattle.config_terms.specs.Steps.{Fault, ◌>>=◌, start_of, pair_in, each}
+use Rattle.config_terms.specs.Steps.{Fault, ◌>>=◌, start_of, pair_in, each, onto}
 use Rattle.ev_types.specs.Names.{named_field}
 use Rattle.config_terms.specs.Words.{nil_text, idle_text, same_field}
 
@@ -150,23 +150,17 @@ some_of place [] = Err (place, why.Arguments)
 some_of place (a ∷ all) = Ok (a ∷ all)
 
 -- the texts of a vector, or one text
-abbrev pub with_text : Env → List (List ℕ) → FormTree → Result (List (List ℕ)) Fault
-with_text env texts f = text_at env f >>= λ text. Ok (texts ++ text ∷ [])
-
 abbrev pub texts_by : Env → FormTree → Argument → Result (List (List ℕ)) Fault
 texts_by env f (Text text) = Ok (text ∷ [])
-texts_by env f (Forms Square forms) = each (with_text env) [] forms
+texts_by env f (Forms Square forms) = each (onto (text_at env)) [] forms
 texts_by env f given = Err (start_of f, misfit given)
 
 unfoldable pub texts_at : Env → FormTree → Result (List (List ℕ)) Fault
 texts_at env f = texts_by env f (argument_of env f)
 
 -- the fields of a vector, of which there is one at least, or one field
-abbrev pub with_field : Env → List Field → FormTree → Result (List Field) Fault
-with_field env fields f = field_at env f >>= λ one. Ok (fields ++ one ∷ [])
-
 abbrev pub some_fields : Env → ℕ → FormTrees → Result (List Field) Fault
-some_fields env place forms = each (with_field env) [] forms >>= some_of place
+some_fields env place forms = each (onto (field_at env)) [] forms >>= some_of place
 
 abbrev pub one_field : Env → FormTree → Result (List Field) Fault
 one_field env f = field_at env f >>= λ one. Ok (one ∷ [])

@@ -1,5 +1,5 @@
 -- Readings that may be refused, one after the other.
-use Rattle.std.specs.Prelude.{◌≡◌, ℕ, zero, suc, List, Result, Ok, Err, Option, Some, None}
+use Rattle.std.specs.Prelude.{◌≡◌, ℕ, zero, suc, List, [], ◌∷◌, ◌++◌, Result, Ok, Err, Option, Some, None}
 use Rattle.config_terms.specs.declared.fault.ConfigFault.{ConfigFault}
 use Rattle.config_terms.specs.declared.fault.ConfigFault.TheVariants.{Refused, Memory}
 use Rattle.config_terms.specs.declared.fault.ConfigWhy.{ConfigWhy}
@@ -77,3 +77,7 @@ at_most n forms = absent (nth n forms)
 unfoldable pub each : {A : Type 0} → (A → FormTree → Result A Fault) → A → FormTrees → Result A Fault
 each step a none = Ok a
 each step a (also form forms) = step a form >>= λ b. each step b forms
+
+-- what the form is read as comes after what was read before it
+abbrev pub onto : {A : Type 0} → (FormTree → Result A Fault) → List A → FormTree → Result (List A) Fault
+onto read all form = read form >>= λ a. Ok (all ++ a ∷ [])

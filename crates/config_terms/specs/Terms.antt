@@ -35,12 +35,14 @@ pub data IsField : Env → BareTree → Field → Type 0 where
 
 -- ---- vectors
 
--- texts in a row
-pub data AreTexts : Env → BareTrees → List (List ℕ) → Type 0 where
-  no_texts : {env : Env} → AreTexts env no_trees []
-  more_texts : {env : Env} {form : BareTree} {forms : BareTrees} {text : List ℕ} {texts : List (List ℕ)}
-      → IsLiteral env form (bound.Text text) → AreTexts env forms texts
-      → AreTexts env (and_trees form forms) (text ∷ texts)
+-- each form represents the value in its place in the list
+pub data AreEach {A : Type 0} (Is : BareTree → A → Type 0) : BareTrees → List A → Type 0 where
+  no_more : AreEach Is no_trees []
+  one_more : {form : BareTree} {forms : BareTrees} {a : A} {all : List A} → Is form a → AreEach Is forms all
+      → AreEach Is (and_trees form forms) (a ∷ all)
+
+abbrev pub AreTexts : Env → BareTrees → List (List ℕ) → Type 0
+AreTexts env = AreEach (λ form text. IsLiteral env form (bound.Text text))
 
 -- a text, or a vector of any number of texts
 pub data IsTexts : Env → BareTree → List (List ℕ) → Type 0 where
@@ -49,12 +51,8 @@ pub data IsTexts : Env → BareTree → List (List ℕ) → Type 0 where
   text_vector : {env : Env} {forms : BareTrees} {texts : List (List ℕ)} → AreTexts env forms texts
       → IsTexts env (vector_of forms) texts
 
--- fields in a row
-pub data AreFields : Env → BareTrees → List Field → Type 0 where
-  no_fields : {env : Env} → AreFields env no_trees []
-  more_fields : {env : Env} {form : BareTree} {forms : BareTrees} {field : Field} {fields : List Field}
-      → IsField env form field → AreFields env forms fields
-      → AreFields env (and_trees form forms) (field ∷ fields)
+abbrev pub AreFields : Env → BareTrees → List Field → Type 0
+AreFields env = AreEach (IsField env)
 
 -- a field, or a vector of one field at least
 pub data IsFields : Env → BareTree → List Field → Type 0 where
@@ -81,15 +79,18 @@ pub data AreSets : Env → BareTrees → List Set → Type 0 where
       → IsField env f one → IsSet env one v set → AreSets env forms sets → IsUnset one sets
       → AreSets env (and_trees f (and_trees v forms)) (set ∷ sets)
 
+-- the one key, and what follows it
+pub data IsOnly {A : Type 0} (wanted : List ℕ) (Is : Env → BareTree → A → Type 0) : Env → BareTrees → A → Type 0 where
+  only : {env : Env} {key v : BareTree} {a : A} → IsLiteral env key (bound.Keyword wanted) → Is env v a
+      → IsOnly wanted Is env (listed (key ∷ v ∷ [])) a
+
 -- `:init v`
-pub data IsInit : Env → BareTrees → Value → Type 0 where
-  an_init : {env : Env} {key v : BareTree} {held : Value} → IsLiteral env key (bound.Keyword (codes "init"))
-      → IsValue env v held → IsInit env (listed (key ∷ v ∷ [])) held
+abbrev pub IsInit : Env → BareTrees → Value → Type 0
+IsInit = IsOnly (codes "init") IsValue
 
 -- `:idle n`, of a number up to the most
-pub data IsIdle : ℕ → Env → BareTrees → ℕ → Type 0 where
-  an_idle : {most : ℕ} {env : Env} {key n : BareTree} {secs : ℕ} → IsLiteral env key (bound.Keyword (codes "idle"))
-      → IsRanged 1 most env n secs → IsIdle most env (listed (key ∷ n ∷ [])) secs
+abbrev pub IsIdle : ℕ → Env → BareTrees → ℕ → Type 0
+IsIdle most = IsOnly (codes "idle") (IsRanged 1 most)
 
 -- ---- a form is read as each of these exactly where it represents this one
 

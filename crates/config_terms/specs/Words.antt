@@ -1,6 +1,6 @@
 -- The words of configurations.
-use Rattle.std.specs.Prelude.{ℕ, Bool, if◌then◌else◌, List, Option, Some, None, codes}
-use Rattle.std.specs.Option.{option_or}
+use Rattle.std.specs.Prelude.{ℕ, Bool, List, [], ◌∷◌, Option, codes}
+use Rattle.std.specs.List.{find}
 use Rattle.std.specs.Str.{bytes_eq}
 use Rattle.ev_types.specs.declared.field.Field.{Field}
 use Rattle.ev_types.specs.Names.{field_name}
@@ -14,9 +14,9 @@ use Rattle.config_terms.specs.declared.word.StreamWord.TheVariants as stream
 use Rattle.config_terms.specs.declared.word.RuleWord.{RuleWord}
 use Rattle.config_terms.specs.declared.word.RuleWord.TheVariants as rule
 
--- the thing with the text, or else the other
-abbrev pub where_named : {A : Type 0} → List ℕ → List ℕ → A → Option A → Option A
-where_named name text a other = if bytes_eq name text then Some a else other
+-- the one of these whose text is the name
+abbrev pub named : {A : Type 0} → (A → List ℕ) → List A → List ℕ → Option A
+named text all name = find (λ a. bytes_eq name (text a)) all
 
 -- ---- what forms at the top begin with
 
@@ -26,15 +26,11 @@ top_text top.PeriodicallyExpire = codes "periodically-expire"
 top_text top.Streams = codes "streams"
 top_text top.Let = codes "let"
 
-abbrev is_top : List ℕ → TopWord → Option TopWord → Option TopWord
-is_top name word = where_named name (top_text word) word
+abbrev pub top_words : List TopWord
+top_words = top.TcpServer ∷ top.PeriodicallyExpire ∷ top.Streams ∷ top.Let ∷ []
 
 unfoldable pub top_word : List ℕ → Option TopWord
-top_word name =
-    is_top name top.TcpServer
-    (is_top name top.PeriodicallyExpire
-    (is_top name top.Streams
-    (is_top name top.Let None)))
+top_word = named top_text top_words
 
 -- ---- what streams begin with
 
@@ -43,7 +39,6 @@ stream_text stream.Index = codes "index"
 stream_text stream.Notice = codes "notice"
 stream_text stream.Sdo = codes "sdo"
 stream_text stream.Where = codes "where"
-stream_text stream.Else = codes "else"
 stream_text stream.With = codes "with"
 stream_text stream.Default = codes "default"
 stream_text stream.Tag = codes "tag"
@@ -65,50 +60,19 @@ stream_text stream.Tagged = codes "tagged"
 stream_text stream.Over = codes "over"
 stream_text stream.Under = codes "under"
 
-abbrev is_stream : List ℕ → StreamWord → Option StreamWord → Option StreamWord
-is_stream name word = where_named name (stream_text word) word
-
--- those that pass events on or end their way
-unfoldable pub passing_word : List ℕ → Option StreamWord
-passing_word name =
-    is_stream name stream.Index
-    (is_stream name stream.Notice
-    (is_stream name stream.Sdo
-    (is_stream name stream.Where
-    (is_stream name stream.Else
-    (is_stream name stream.With
-    (is_stream name stream.Default
-    (is_stream name stream.Tag
-    (is_stream name stream.By None))))))))
-
--- those that choose among events by what came before, and those that make one item of several
-unfoldable pub choosing_or_gathering_word : List ℕ → Option StreamWord
-choosing_or_gathering_word name =
-    is_stream name stream.Changed
-    (is_stream name stream.Runs
-    (is_stream name stream.Throttle
-    (is_stream name stream.Rollup
-    (is_stream name stream.Batch
-    (is_stream name stream.Stable
-    (is_stream name stream.Coalesce
-    (is_stream name stream.Smap None)))))))
-
--- windows, and tests of one event by itself
-unfoldable pub window_or_test_word : List ℕ → Option StreamWord
-window_or_test_word name =
-    is_stream name stream.FixedEvent
-    (is_stream name stream.MovingEvent
-    (is_stream name stream.FixedTime
-    (is_stream name stream.MovingTime
-    (is_stream name stream.Expired
-    (is_stream name stream.Tagged
-    (is_stream name stream.Over
-    (is_stream name stream.Under None)))))))
+abbrev pub stream_words : List StreamWord
+stream_words =
+    stream.Index ∷ stream.Notice ∷ stream.Sdo ∷ stream.Where ∷ stream.With ∷ stream.Default ∷ stream.Tag
+    ∷ stream.By ∷ stream.Changed ∷ stream.Runs ∷ stream.Throttle ∷ stream.Rollup ∷ stream.Batch
+    ∷ stream.Stable ∷ stream.FixedEvent ∷ stream.MovingEvent ∷ stream.FixedTime ∷ stream.MovingTime
+    ∷ stream.Coalesce ∷ stream.Smap ∷ stream.Expired ∷ stream.Tagged ∷ stream.Over ∷ stream.Under ∷ []
 
 unfoldable pub stream_word : List ℕ → Option StreamWord
-stream_word name =
-    option_or (passing_word name)
-    (option_or (choosing_or_gathering_word name) (window_or_test_word name))
+stream_word = named stream_text stream_words
+
+-- what begins the streams that get the rest
+abbrev pub else_text : List ℕ
+else_text = codes "else"
 
 -- ---- what predicates begin with, beside fields
 
@@ -125,28 +89,13 @@ rule_text (rule.Order Greater) = codes ">"
 rule_text (rule.Order GreaterEqual) = codes ">="
 rule_text rule.Like = codes "like"
 
-abbrev is_rule : List ℕ → RuleWord → Option RuleWord → Option RuleWord
-is_rule name word = where_named name (rule_text word) word
-
-unfoldable pub joining_word : List ℕ → Option RuleWord
-joining_word name =
-    is_rule name rule.And
-    (is_rule name rule.Or
-    (is_rule name rule.Not
-    (is_rule name rule.Tagged
-    (is_rule name rule.Like None))))
-
-unfoldable pub comparing_word : List ℕ → Option RuleWord
-comparing_word name =
-    is_rule name rule.Equal
-    (is_rule name rule.NotEqual
-    (is_rule name (rule.Order Less)
-    (is_rule name (rule.Order LessEqual)
-    (is_rule name (rule.Order Greater)
-    (is_rule name (rule.Order GreaterEqual) None)))))
+abbrev pub rule_words : List RuleWord
+rule_words =
+    rule.And ∷ rule.Or ∷ rule.Not ∷ rule.Tagged ∷ rule.Equal ∷ rule.NotEqual ∷ rule.Order Less ∷ rule.Order LessEqual
+    ∷ rule.Order Greater ∷ rule.Order GreaterEqual ∷ rule.Like ∷ []
 
 unfoldable pub rule_word : List ℕ → Option RuleWord
-rule_word name = option_or (joining_word name) (comparing_word name)
+rule_word = named rule_text rule_words
 
 -- predicates that are one word, and the value that is one
 abbrev pub true_text : List ℕ
@@ -175,15 +124,11 @@ fold_text Minimum = codes "folds/minimum"
 fold_text Maximum = codes "folds/maximum"
 fold_text Count = codes "folds/count"
 
-abbrev is_fold : List ℕ → Fold → Option Fold → Option Fold
-is_fold name fold = where_named name (fold_text fold) fold
+abbrev pub fold_words : List Fold
+fold_words = Sum ∷ Minimum ∷ Maximum ∷ Count ∷ []
 
 unfoldable pub fold_word : List ℕ → Option Fold
-fold_word name =
-    is_fold name Sum
-    (is_fold name Minimum
-    (is_fold name Maximum
-    (is_fold name Count None)))
+fold_word = named fold_text fold_words
 
 -- ---- keys of maps
 

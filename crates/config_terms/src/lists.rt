@@ -2,9 +2,9 @@
 
 ghost use Rattle.std.specs.Prelude.{◌≡◌, [], ◌∷◌, ◌&&◌, if◌then◌else◌, None, Ok};
 ghost use Rattle.sexp_read.specs.Tree.{form_tree, form_trees};
-ghost use Rattle.config_terms.specs.Steps.{Gives, GivesAs, each, start_of};
+ghost use Rattle.config_terms.specs.Steps.{Gives, GivesAs, each, onto, start_of};
 ghost use Rattle.config_terms.specs.Code.{argument_in};
-ghost use Rattle.config_terms.specs.Arguments.{with_text, texts_at as texts_from, with_field, one_field, some_fields, fields_at as fields_from, set_at as set_from, has_field, new_field_at as new_field_from, sets_from as sets_in, is_number, is_ttl_field, value_at as value_from, only_key_at as only_key_from, one_entry, is_idle_key, idle_number, idle_in};
+ghost use Rattle.config_terms.specs.Arguments.{text_at as text_from, field_at as field_from, texts_at as texts_from, one_field, some_fields, fields_at as fields_from, set_at as set_from, has_field, new_field_at as new_field_from, sets_from as sets_in, is_number, is_ttl_field, value_at as value_from, only_key_at as only_key_from, one_entry, is_idle_key, idle_number, idle_in};
 ghost use Rattle.config_terms.specs.declared.fault.ConfigWhy.TheVariants.{Range, Arguments};
 ghost use Rattle.config_terms.specs.Words.{init_text};
 
@@ -42,7 +42,7 @@ fn one_text(alloc: Global, text: &Text) -> Result<Texts, ConfigFault>
 
 #[tactic(auto, unfolding(crate::specs::Steps::each))]
 fn texts_in(alloc: Global, env: &[Binding], forms: &[Form]) -> Result<Texts, ConfigFault>
-    ensures { Gives result (each (with_text env.now) [] (form_trees forms.now)) }
+    ensures { Gives result (each (onto (text_from env.now)) [] (form_trees forms.now)) }
 {
     let mut texts = Texts::fresh(alloc);
     let mut left = forms;
@@ -93,7 +93,7 @@ fn some_fields(
 
 #[tactic(auto, unfolding(crate::specs::Steps::each))]
 fn fields_in(alloc: Global, env: &[Binding], forms: &[Form]) -> Result<Fields, ConfigFault>
-    ensures { Gives result (each (with_field env.now) [] (form_trees forms.now)) }
+    ensures { Gives result (each (onto (field_from env.now)) [] (form_trees forms.now)) }
 {
     let mut fields = Fields::fresh(alloc);
     let mut left = forms;

@@ -3,7 +3,7 @@
 ghost use Rattle.std.specs.Prelude.{◌≡◌, IfOk};
 ghost use Rattle.std.specs.Str.{bytes_eq};
 ghost use Rattle.ev_types.specs.Names.{named_field};
-ghost use Rattle.config_terms.specs.Words.{top_word, passing_word, choosing_or_gathering_word, window_or_test_word, stream_word, joining_word, comparing_word, rule_word, same_field, fold_word};
+ghost use Rattle.config_terms.specs.Words.{top_word, stream_word, rule_word, same_field, fold_word};
 
 use ev_types::{Field, Fold, Memory, Text};
 use pred_eval::Ordering;
@@ -18,14 +18,13 @@ pub enum TopWord {
     Let,
 }
 
-/// A word that begins a stream, or the streams of a `where` that get the rest.
+/// A word that begins a stream.
 #[derive(Clone, Copy, Debug, PartialEq, Eq)]
 pub enum StreamWord {
     Index,
     Notice,
     Sdo,
     Where,
-    Else,
     With,
     Default,
     Tag,
@@ -73,17 +72,12 @@ pub fn is(name: &[u8], text: &[u8]) -> bool
 pub fn top_word(name: &Text) -> Option<TopWord>
     ensures { result ≡ top_word name.now }
 {
-    let name = name.as_bytes();
-    if is(name, b"tcp-server") {
-        Some(TopWord::TcpServer)
-    } else if is(name, b"periodically-expire") {
-        Some(TopWord::PeriodicallyExpire)
-    } else if is(name, b"streams") {
-        Some(TopWord::Streams)
-    } else if is(name, b"let") {
-        Some(TopWord::Let)
-    } else {
-        None
+    match name.as_str() {
+        "tcp-server" => Some(TopWord::TcpServer),
+        "periodically-expire" => Some(TopWord::PeriodicallyExpire),
+        "streams" => Some(TopWord::Streams),
+        "let" => Some(TopWord::Let),
+        _ => None,
     }
 }
 
@@ -92,141 +86,53 @@ pub fn top_word(name: &Text) -> Option<TopWord>
 pub fn stream_word(name: &Text) -> Option<StreamWord>
     ensures { result ≡ stream_word name.now }
 {
-    let name = name.as_bytes();
-    if let Some(word) = passing_word(name) {
-        return Some(word);
-    }
-    if let Some(word) = choosing_or_gathering_word(name) {
-        return Some(word);
-    }
-    window_or_test_word(name)
-}
-
-#[tactic(auto, unfolding(crate::specs::Words::passing_word))]
-fn passing_word(name: &[u8]) -> Option<StreamWord>
-    ensures { result ≡ passing_word name.now }
-{
-    if is(name, b"index") {
-        Some(StreamWord::Index)
-    } else if is(name, b"notice") {
-        Some(StreamWord::Notice)
-    } else if is(name, b"sdo") {
-        Some(StreamWord::Sdo)
-    } else if is(name, b"where") {
-        Some(StreamWord::Where)
-    } else if is(name, b"else") {
-        Some(StreamWord::Else)
-    } else if is(name, b"with") {
-        Some(StreamWord::With)
-    } else if is(name, b"default") {
-        Some(StreamWord::Default)
-    } else if is(name, b"tag") {
-        Some(StreamWord::Tag)
-    } else if is(name, b"by") {
-        Some(StreamWord::By)
-    } else {
-        None
+    match name.as_str() {
+        "index" => Some(StreamWord::Index),
+        "notice" => Some(StreamWord::Notice),
+        "sdo" => Some(StreamWord::Sdo),
+        "where" => Some(StreamWord::Where),
+        "with" => Some(StreamWord::With),
+        "default" => Some(StreamWord::Default),
+        "tag" => Some(StreamWord::Tag),
+        "by" => Some(StreamWord::By),
+        "changed" => Some(StreamWord::Changed),
+        "runs" => Some(StreamWord::Runs),
+        "throttle" => Some(StreamWord::Throttle),
+        "rollup" => Some(StreamWord::Rollup),
+        "batch" => Some(StreamWord::Batch),
+        "stable" => Some(StreamWord::Stable),
+        "coalesce" => Some(StreamWord::Coalesce),
+        "smap" => Some(StreamWord::Smap),
+        "fixed-event-window" => Some(StreamWord::FixedEvent),
+        "moving-event-window" => Some(StreamWord::MovingEvent),
+        "fixed-time-window" => Some(StreamWord::FixedTime),
+        "moving-time-window" => Some(StreamWord::MovingTime),
+        "expired" => Some(StreamWord::Expired),
+        "tagged" => Some(StreamWord::Tagged),
+        "over" => Some(StreamWord::Over),
+        "under" => Some(StreamWord::Under),
+        _ => None,
     }
 }
 
-#[tactic(auto, unfolding(crate::specs::Words::choosing_or_gathering_word))]
-fn choosing_or_gathering_word(name: &[u8]) -> Option<StreamWord>
-    ensures { result ≡ choosing_or_gathering_word name.now }
-{
-    if is(name, b"changed") {
-        Some(StreamWord::Changed)
-    } else if is(name, b"runs") {
-        Some(StreamWord::Runs)
-    } else if is(name, b"throttle") {
-        Some(StreamWord::Throttle)
-    } else if is(name, b"rollup") {
-        Some(StreamWord::Rollup)
-    } else if is(name, b"batch") {
-        Some(StreamWord::Batch)
-    } else if is(name, b"stable") {
-        Some(StreamWord::Stable)
-    } else if is(name, b"coalesce") {
-        Some(StreamWord::Coalesce)
-    } else if is(name, b"smap") {
-        Some(StreamWord::Smap)
-    } else {
-        None
-    }
-}
-
-#[tactic(auto, unfolding(crate::specs::Words::window_or_test_word))]
-fn window_or_test_word(name: &[u8]) -> Option<StreamWord>
-    ensures { result ≡ window_or_test_word name.now }
-{
-    if is(name, b"fixed-event-window") {
-        Some(StreamWord::FixedEvent)
-    } else if is(name, b"moving-event-window") {
-        Some(StreamWord::MovingEvent)
-    } else if is(name, b"fixed-time-window") {
-        Some(StreamWord::FixedTime)
-    } else if is(name, b"moving-time-window") {
-        Some(StreamWord::MovingTime)
-    } else if is(name, b"expired") {
-        Some(StreamWord::Expired)
-    } else if is(name, b"tagged") {
-        Some(StreamWord::Tagged)
-    } else if is(name, b"over") {
-        Some(StreamWord::Over)
-    } else if is(name, b"under") {
-        Some(StreamWord::Under)
-    } else {
-        None
-    }
-}
-
+/// The word of this name that begins a predicate.
 #[tactic(auto, unfolding(crate::specs::Words::rule_word))]
 pub(crate) fn rule_word(name: &Text) -> Option<RuleWord>
     ensures { result ≡ rule_word name.now }
 {
-    let name = name.as_bytes();
-    if let Some(word) = joining_word(name) {
-        return Some(word);
-    }
-    comparing_word(name)
-}
-
-#[tactic(auto, unfolding(crate::specs::Words::joining_word))]
-fn joining_word(name: &[u8]) -> Option<RuleWord>
-    ensures { result ≡ joining_word name.now }
-{
-    if is(name, b"and") {
-        Some(RuleWord::And)
-    } else if is(name, b"or") {
-        Some(RuleWord::Or)
-    } else if is(name, b"not") {
-        Some(RuleWord::Not)
-    } else if is(name, b"tagged") {
-        Some(RuleWord::Tagged)
-    } else if is(name, b"like") {
-        Some(RuleWord::Like)
-    } else {
-        None
-    }
-}
-
-#[tactic(auto, unfolding(crate::specs::Words::comparing_word))]
-fn comparing_word(name: &[u8]) -> Option<RuleWord>
-    ensures { result ≡ comparing_word name.now }
-{
-    if is(name, b"=") {
-        Some(RuleWord::Equal)
-    } else if is(name, b"not=") {
-        Some(RuleWord::NotEqual)
-    } else if is(name, b"<") {
-        Some(RuleWord::Order(Ordering::Less))
-    } else if is(name, b"<=") {
-        Some(RuleWord::Order(Ordering::LessEqual))
-    } else if is(name, b">") {
-        Some(RuleWord::Order(Ordering::Greater))
-    } else if is(name, b">=") {
-        Some(RuleWord::Order(Ordering::GreaterEqual))
-    } else {
-        None
+    match name.as_str() {
+        "and" => Some(RuleWord::And),
+        "or" => Some(RuleWord::Or),
+        "not" => Some(RuleWord::Not),
+        "tagged" => Some(RuleWord::Tagged),
+        "like" => Some(RuleWord::Like),
+        "=" => Some(RuleWord::Equal),
+        "not=" => Some(RuleWord::NotEqual),
+        "<" => Some(RuleWord::Order(Ordering::Less)),
+        "<=" => Some(RuleWord::Order(Ordering::LessEqual)),
+        ">" => Some(RuleWord::Order(Ordering::Greater)),
+        ">=" => Some(RuleWord::Order(Ordering::GreaterEqual)),
+        _ => None,
     }
 }
 
@@ -250,16 +156,11 @@ pub(crate) fn same_field(a: &Field, b: &Field) -> bool
 pub fn fold_word(name: &Text) -> Option<Fold>
     ensures { result ≡ fold_word name.now }
 {
-    let name = name.as_bytes();
-    if is(name, b"folds/sum") {
-        Some(Fold::Sum)
-    } else if is(name, b"folds/minimum") {
-        Some(Fold::Minimum)
-    } else if is(name, b"folds/maximum") {
-        Some(Fold::Maximum)
-    } else if is(name, b"folds/count") {
-        Some(Fold::Count)
-    } else {
-        None
+    match name.as_str() {
+        "folds/sum" => Some(Fold::Sum),
+        "folds/minimum" => Some(Fold::Minimum),
+        "folds/maximum" => Some(Fold::Maximum),
+        "folds/count" => Some(Fold::Count),
+        _ => None,
     }
 }

@@ -10,7 +10,7 @@ use Rattle.sexp_read.specs.Tree.{FormTree, FormTrees, Single, Group, none, also}
 use Rattle.sexp_read.specs.Written.{BareTree, BareTrees, and_trees, bare_tree, bare_trees, listed}
 use Rattle.config_terms.specs.declared.fault.ConfigWhy.TheVariants as why
 use Rattle.config_terms.specs.Code.{Look, Symbol, Call, Lookup, Other, look_of}
-use Rattle.config_terms.specs.Steps.{Fault, ◌>>=◌, start_of, argument, at_most, each}
+use Rattle.config_terms.specs.Steps.{Fault, ◌>>=◌, start_of, argument, at_most, each, onto}
 use Rattle.config_terms.specs.Arguments.{text_at}
 use Rattle.config_terms.specs.Grammar.{worded}
 use Rattle.config_terms.proofs.BareForms.{also_of, none_of, call_of}
@@ -24,23 +24,26 @@ use Rattle.config_tests.specs.declared.map.Described.{Described}
 use Rattle.config_tests.specs.declared.word.EntryWord.{EntryWord}
 use Rattle.config_tests.specs.declared.word.EntryWord.TheVariants as word
 use Rattle.config_tests.specs.Entries.{no_entries as no_draft, passed, posted, expected, count_at, with_tick}
-use Rattle.config_tests.specs.Entries.{with_event, with_item, new_name, with_expect, entry_by, entry_looking}
+use Rattle.config_tests.specs.Entries.{with_event, new_name, with_expect, entry_by, entry_looking, item_at}
 use Rattle.config_tests.specs.Entries.{with_entry}
 use Rattle.config_tests.specs.Events.{event_of}
 use Rattle.config_tests.specs.Faults.{IsListOf, IsFirstFault, IsMisfit, HasCountFault, HasMapFault, HaveItemFault}
 use Rattle.config_tests.specs.Faults.{HasEntryFault, no_entry, nothing_after, tick_count, tick_more, event_map}
 use Rattle.config_tests.specs.Faults.{event_more, expect_name, expect_twice, expect_item, HaveEntryFault}
-use Rattle.config_tests.specs.Grammar.{then_one, AreEach, IsText, IsCount, IsMap, IsItem, Told, nothing_told, passed_in}
+use Rattle.config_terms.specs.Terms.{AreEach}
+use Rattle.config_tests.specs.Grammar.{then_one, IsText, IsCount, IsMap, IsItem, Told, nothing_told, passed_in}
 use Rattle.config_tests.specs.Grammar.{with_entry_told, with_expect_told, has_expect, IsEntry, a_tick, an_event}
 use Rattle.config_tests.specs.Grammar.{an_expect, AreEntries, no_entries, more_entries}
 use Rattle.config_tests.specs.Maps.{described_at}
-use Rattle.config_tests.specs.Words.{entry_text, entry_word}
+use Rattle.config_tests.specs.Words.{entry_text, entry_words, entry_word}
 use Rattle.config_tests.proofs.ItemsRead.{Counted, count_both, count_read, count_refuses, items_both, items_read}
 use Rattle.config_tests.proofs.ItemsRead.{items_refuse}
 use Rattle.config_tests.proofs.MapsRead.{map_both, map_read, map_refuses}
 use Rattle.config_tests.proofs.Refusals.{Refuses, Both, both_then, both_if, both_weaker, refuses_first, refuses_as}
 use Rattle.config_tests.proofs.Refusals.{text_both, text_refuses}
-use Rattle.config_tests.proofs.Rows.{each_both, each_none, each_last, row_refuses, last_of}
+use Rattle.config_terms.proofs.NameLaws.{named_has_text}
+use Rattle.config_terms.proofs.RowLaws.{each_none}
+use Rattle.config_tests.proofs.Rows.{each_both, each_last, row_refuses, last_of}
 use Rattle.config_tests.proofs.ShortLaws.{seconds-append}
 
 -- ---- forms by their heads
@@ -116,21 +119,14 @@ list_of name row f h =
 word_is : (w : EntryWord) → entry_word (entry_text w) ≡ Some w
 unfolding entry_word
 word_is word.Tick = refl
-word_is word.Event = refl
-word_is word.Expect = refl
+word_is w = refl
 
 abbrev Names : List ℕ → EntryWord → Type 0
 Names name w = name ≡ entry_text w
 
 word_means : (name : List ℕ) → SomeGood (Names name) (entry_word name)
 unfolding entry_word
-word_means name =
-    some_if (Names name) (bytes_eq name (entry_text word.Tick)) _ _
-    (λ is. (bytes_eq-Decides name (entry_text word.Tick)).0 is)
-    (λ _. some_if (Names name) (bytes_eq name (entry_text word.Event)) _ _
-    (λ is. (bytes_eq-Decides name (entry_text word.Event)).0 is)
-    (λ _. some_if (Names name) (bytes_eq name (entry_text word.Expect)) _ _
-    (λ is. (bytes_eq-Decides name (entry_text word.Expect)).0 is) (λ _. tt)))
+word_means name = named_has_text entry_text entry_words name
 
 entry_looks : (draft : Draft) (w : EntryWord) (forms : FormTrees) (f : FormTree) → IsListOf (entry_text w) forms f
     → with_entry draft f ≡ entry_by (Some w) (start_of f) forms draft
@@ -296,20 +292,20 @@ expect_both told f (also x forms) call =
     let E = HasEntryFault told f in
     both_then (IsText (bare_tree x)) (IsMisfit IsText x) E P (text_at [] x)
     (λ given. new_name (start_of f) told.expects given
-    >>= λ name. each with_item [] forms >>= λ items. Ok (expected name items (draft_of told)))
+    >>= λ name. each (onto item_at) [] forms >>= λ items. Ok (expected name items (draft_of told)))
     (text_both x) (λ fault misfit. expect_name call misfit)
     (λ given is. both_then (IsNewName told (bare_tree x)) E E P (new_name (start_of f) told.expects given)
-    (λ name. each with_item [] forms >>= λ items. Ok (expected name items (draft_of told)))
+    (λ name. each (onto item_at) [] forms >>= λ items. Ok (expected name items (draft_of told)))
     (both_if (IsNewName told (bare_tree x)) E (has_expect given told.expects) _ _ (λ had. expect_twice call is had)
     (λ new. (is, new)))
     (λ fault has. has)
-    (λ name new. both_then (AreEach IsItem (bare_trees forms)) (HaveItemFault forms) E P (each with_item [] forms)
+    (λ name new. both_then (AreEach IsItem (bare_trees forms)) (HaveItemFault forms) E P (each (onto item_at) [] forms)
     (λ items. Ok (expected name items (draft_of told)))
     (items_both forms) (λ fault has. expect_item call new.0 new.1 has)
     (λ items are. expect_onto told f x forms name items call new.0 new.1 are)))
 
 expect_read : (start : ℕ) (x : FormTree) (forms : FormTrees) (draft : Draft) (name : List ℕ) (items : List Item)
-    → text_at [] x ≡ Ok name → has_expect name draft.expects ≡ false → each with_item [] forms ≡ Ok items
+    → text_at [] x ≡ Ok name → has_expect name draft.expects ≡ false → each (onto item_at) [] forms ≡ Ok items
     → with_expect start (also x forms) draft ≡ Ok (expected name items draft)
 unfolding with_expect argument
 expect_read start x forms draft name items is new are = rw (is, new, are) refl
@@ -320,7 +316,8 @@ unfolding with_expect argument
 expect_first start x forms draft fault refused =
     refuses_first (text_at [] x)
     (λ given.
-    new_name start draft.expects given >>= λ name. each with_item [] forms >>= λ items. Ok (expected name items draft))
+    new_name start draft.expects given >>= λ name. each (onto item_at) [] forms >>= λ items. Ok
+    (expected name items draft))
     fault refused
 
 expect_had : (start : ℕ) (x : FormTree) (forms : FormTrees) (draft : Draft) (name : List ℕ) → text_at [] x ≡ Ok name
@@ -329,11 +326,11 @@ unfolding with_expect argument
 expect_had start x forms draft name is had = rw (is, had) refl
 
 expect_items : (start : ℕ) (x : FormTree) (forms : FormTrees) (draft : Draft) (name : List ℕ) (fault : Fault)
-    → text_at [] x ≡ Ok name → has_expect name draft.expects ≡ false → Refuses (each with_item [] forms) fault
+    → text_at [] x ≡ Ok name → has_expect name draft.expects ≡ false → Refuses (each (onto item_at) [] forms) fault
     → Refuses (with_expect start (also x forms) draft) fault
 unfolding with_expect argument
 expect_items start x forms draft name fault is new refused =
-    rw (is, new) (refuses_first (each with_item [] forms) (λ items. Ok (expected name items draft)) fault refused)
+    rw (is, new) (refuses_first (each (onto item_at) [] forms) (λ items. Ok (expected name items draft)) fault refused)
 
 -- ---- entries
 

@@ -11,7 +11,7 @@ use Rattle.sexp_read.specs.declared.piece.Bracket.TheVariants.{Round, Square, Cu
 use Rattle.sexp_read.specs.Tree.{FormTree, FormTrees, Single, Group, none}
 use Rattle.sexp_read.specs.Written.{BareTree, BareTrees, Branch, no_trees, bare_tree, bare_trees}
 use Rattle.config_terms.specs.declared.fault.ConfigWhy.TheVariants as why
-use Rattle.config_terms.specs.Steps.{Fault, ◌>>=◌, start_of, each}
+use Rattle.config_terms.specs.Steps.{Fault, ◌>>=◌, start_of, each, onto}
 use Rattle.config_terms.specs.Arguments.{argument_of, has_field, number_at, ranged, ranged_at, some_of}
 use Rattle.config_terms.specs.Terms.{vector_of}
 use Rattle.config_terms.proofs.BareForms.{group_of, none_of}
@@ -19,18 +19,20 @@ use Rattle.config_terms.proofs.TermLaws.{numbers_are_read}
 use Rattle.config_terms.proofs.VectorLaws.{ranges_are_read}
 use Rattle.config_tests.specs.declared.draft.TheConstants.{MAX_SECONDS, MAX_TICK}
 use Rattle.config_tests.specs.declared.map.Described.{Described}
-use Rattle.config_tests.specs.Entries.{within, count_at, timed, timed_at, with_timed, some_timed, item_at, with_item}
+use Rattle.config_tests.specs.Entries.{within, count_at, timed, timed_at, some_timed, item_at}
 use Rattle.config_tests.specs.Events.{event_of}
 use Rattle.config_tests.specs.Faults.{IsMisfit, IsNumber, HasCountFault, no_number, no_count, too_many, IsVector}
 use Rattle.config_tests.specs.Faults.{HasMapFault, HasTimedFault, no_event, no_time, HaveTimedFault, HasItemFault}
 use Rattle.config_tests.specs.Faults.{no_item, in_vector, no_events, HaveItemFault}
-use Rattle.config_tests.specs.Grammar.{AreEach, no_more, one_more, IsCount, IsMap, IsTimed, a_timed, IsItem, event_item}
+use Rattle.config_terms.specs.Terms.{AreEach, no_more, one_more}
+use Rattle.config_tests.specs.Grammar.{IsCount, IsMap, IsTimed, a_timed, IsItem, event_item}
 use Rattle.config_tests.specs.Grammar.{vector_item}
 use Rattle.config_tests.specs.Maps.{described_at}
 use Rattle.config_tests.proofs.MapsRead.{map_both, map_read, map_refuses, map_is_curly}
 use Rattle.config_tests.proofs.Refusals.{Refuses, Both, both_then, both_if, refuses_first, refuses_next, refuses_as}
 use Rattle.config_tests.proofs.Refusals.{ok_err, number_both, number_refuses}
-use Rattle.config_tests.proofs.Rows.{all_both, all_read, all_refuses}
+use Rattle.config_terms.proofs.RowLaws.{all_read}
+use Rattle.config_tests.proofs.Rows.{all_both, all_refuses}
 
 -- ---- seconds
 
@@ -174,7 +176,8 @@ some_both : (forms : FormTrees) (start last : ℕ)
 some_both forms start last =
     let P = ManyIn (vector_of (bare_trees forms)) in
     let E = HasItemFault (Group Square forms start last) in
-    both_then (AreEach IsTimed (bare_trees forms)) (HaveTimedFault forms) E P (each with_timed [] forms) (some_of start)
+    both_then (AreEach IsTimed (bare_trees forms)) (HaveTimedFault forms) E P (each (onto timed_at) [] forms)
+    (some_of start)
     (all_both IsTimed HasTimedFault timed_at timed_both forms) (λ fault has. in_vector has) by
   where
     by : (events : List Event) → AreEach IsTimed (bare_trees forms) events
@@ -264,20 +267,20 @@ item_refuses _ fault (in_vector {forms = forms} {start = start} {last = last} ha
     refuses_as (item_at (Group Square forms start last)) (some_timed start forms >>= λ events. Ok (Many events)) fault
     (item_group forms start last)
     (refuses_first (some_timed start forms) (λ events. Ok (Many events)) fault
-    (refuses_first (each with_timed [] forms) (some_of start) fault
+    (refuses_first (each (onto timed_at) [] forms) (some_of start) fault
     (all_refuses IsTimed HasTimedFault timed_at timed_read timed_refuses forms fault has)))
 item_refuses _ _ (no_events {start = start} {last = last}) =
     refuses_as (item_at (Group Square none start last)) (some_timed start none >>= λ events. Ok (Many events))
     (start, why.Arguments) (item_group none start last) (no_events_refuse start)
 
 pub items_both : (forms : FormTrees)
-    → Both (AreEach IsItem (bare_trees forms)) (HaveItemFault forms) (each with_item [] forms)
+    → Both (AreEach IsItem (bare_trees forms)) (HaveItemFault forms) (each (onto item_at) [] forms)
 items_both forms = all_both IsItem HasItemFault item_at item_both forms
 
 pub items_read : (forms : FormTrees) (items : List Item) → AreEach IsItem (bare_trees forms) items
-    → each with_item [] forms ≡ Ok items
+    → each (onto item_at) [] forms ≡ Ok items
 items_read forms items are = all_read IsItem item_at item_read forms items are
 
 pub items_refuse : (forms : FormTrees) (fault : Fault) → HaveItemFault forms fault
-    → Refuses (each with_item [] forms) fault
+    → Refuses (each (onto item_at) [] forms) fault
 items_refuse forms fault known = all_refuses IsItem HasItemFault item_at item_read item_refuses forms fault known

@@ -14,20 +14,20 @@ use Rattle.sexp_read.specs.Tree.{FormTree, FormTrees, Single, Group, none, also}
 use Rattle.sexp_read.specs.Written.{BareTree, BareTrees, bare_tree, bare_trees}
 use Rattle.config_terms.specs.declared.binding.Bound.TheVariants as bound
 use Rattle.config_terms.specs.declared.fault.ConfigWhy.TheVariants as why
-use Rattle.config_terms.specs.Steps.{Fault, ◌>>=◌, start_of, each}
+use Rattle.config_terms.specs.Steps.{Fault, ◌>>=◌, start_of, each, onto}
 use Rattle.config_terms.specs.Words.{tags_text}
 use Rattle.config_terms.specs.Arguments.{Env, Argument, Text, Pattern, Number, Keyword, Index, Unbound, Forms}
 use Rattle.config_terms.specs.Arguments.{argument_of, is_number, is_ttl_field, fitted, text_at, value_at, set_at}
-use Rattle.config_terms.specs.Arguments.{with_text, texts_at, vector_at, map_at}
+use Rattle.config_terms.specs.Arguments.{texts_at, vector_at, map_at}
 use Rattle.config_terms.specs.Grammar.{IsLiteral, IsValue}
-use Rattle.config_terms.specs.Terms.{vector_of, a_field, IsSet, a_set, AreTexts, no_texts, more_texts, text_vector}
+use Rattle.config_terms.specs.Terms.{vector_of, a_field, IsSet, a_set, AreTexts}
 use Rattle.config_terms.proofs.BareForms.{group_of, none_of}
 use Rattle.config_terms.proofs.GrammarOnly.{Meaning, taken_means}
 use Rattle.config_terms.proofs.GrammarRead.{literal_read}
 use Rattle.config_terms.proofs.Outcomes.{SomeGood, OkGood, some_if, ok_read}
 use Rattle.config_terms.proofs.SetLaws.{sets_are_read, KeyIs}
-use Rattle.config_terms.proofs.TermLaws.{values_are_read}
-use Rattle.config_terms.proofs.VectorLaws.{text_vectors_are_read}
+use Rattle.config_terms.proofs.TermLaws.{texts_are_read, values_are_read}
+use Rattle.config_terms.proofs.RowLaws.{all_read}
 use Rattle.config_tests.specs.declared.map.Described.{Described}
 use Rattle.config_tests.specs.declared.map.MapKey.{MapKey}
 use Rattle.config_tests.specs.declared.map.MapKey.TheVariants as key
@@ -43,7 +43,7 @@ use Rattle.config_tests.proofs.Refusals.{Refuses, Both, both_then, both_if, both
 use Rattle.config_tests.proofs.Refusals.{refuses_as, taken_both, taken_refuses, text_both, text_refuses, value_both}
 use Rattle.config_tests.proofs.Refusals.{value_refuses}
 use Rattle.config_tests.proofs.Rows.{none_after, forms_after, and_form, bare_after, last_of, same_next, same_ok}
-use Rattle.config_tests.proofs.Rows.{each_both, row_refuses}
+use Rattle.config_tests.proofs.Rows.{all_both, all_refuses}
 
 -- ---- keys
 
@@ -146,36 +146,20 @@ set_refuses one _ _ (unfit {f = f} {held = held} is not) =
 
 -- ---- tags
 
-texts_snoc : (env : Env) (row : BareTrees) (texts : List (List ℕ)) (form : BareTree) (text : List ℕ)
-    → AreTexts env row texts → IsLiteral env form (bound.Text text)
-    → AreTexts env (then_one row form) (texts ++ text ∷ [])
-texts_snoc env _ _ form text no_texts is = more_texts is no_texts
-texts_snoc env _ _ form text (more_texts {forms = row} {texts = texts} first others) is =
-    more_texts first (texts_snoc env row texts form text others is)
-
 texts_both : (forms : FormTrees)
-    → Both (AreTexts [] (bare_trees forms)) (HaveTextFault forms) (each (with_text []) [] forms)
-texts_both forms =
-    each_both (with_text []) [] (AreTexts []) (λ texts. IsMisfit IsText) no_texts
-    (λ row texts f are. both_then (IsText (bare_tree f)) (IsMisfit IsText f) (IsMisfit IsText f)
-    (AreTexts [] (then_one row (bare_tree f))) (text_at [] f) (λ text. Ok (texts ++ text ∷ [])) (text_both f)
-    (λ fault has. has)
-    (λ text is. texts_snoc [] row texts (bare_tree f) text are is)) forms
+    → Both (AreTexts [] (bare_trees forms)) (HaveTextFault forms) (each (onto (text_at [])) [] forms)
+texts_both forms = all_both IsText (IsMisfit IsText) (text_at []) text_both forms
 
-texts_read : (forms : FormTrees) (texts : List (List ℕ)) → AreTexts [] (bare_trees forms) texts
-    → each (with_text []) [] forms ≡ Ok texts
-unfolding texts_at argument_of
-texts_read forms texts are = (text_vectors_are_read [] (Group Square forms 0 0) texts).0 (text_vector are)
+text_is : (f : FormTree) (text : List ℕ) → IsText (bare_tree f) text → text_at [] f ≡ Ok text
+text_is f text is = (texts_are_read [] f text).0 is
 
 texts_refuse : (forms : FormTrees) (fault : Fault) → HaveTextFault forms fault
-    → Refuses (each (with_text []) [] forms) fault
-texts_refuse forms fault known =
-    row_refuses (with_text []) [] (λ texts. texts) (AreTexts []) (λ texts. IsMisfit IsText) texts_read
-    (λ texts f why has. refuses_first (text_at [] f) (λ text. Ok (texts ++ text ∷ [])) why (text_refuses f why has))
-    forms fault known
+    → Refuses (each (onto (text_at [])) [] forms) fault
+texts_refuse forms fault known = all_refuses IsText (IsMisfit IsText)
+    (text_at []) text_is text_refuses forms fault known
 
 tags_group : (forms : FormTrees) (start last : ℕ)
-    → tags_at (Group Square forms start last) ≡ each (with_text []) [] forms
+    → tags_at (Group Square forms start last) ≡ each (onto (text_at [])) [] forms
 unfolding tags_at vector_at texts_at argument_of
 tags_group forms start last = refl
 
@@ -187,7 +171,7 @@ unfolding tags_at vector_at texts_at argument_of
 tags_both before (Group Square forms start last) =
     let f = Group Square forms start last in
     both_weaker (AreTexts [] (bare_trees forms)) (Tagged before (bare_tree f)) (HaveTextFault forms) (HasTagsFault f)
-    (each (with_text []) [] forms) (texts_both forms) (λ tags are. says_tags are) (λ fault has. no_tag has)
+    (each (onto (text_at [])) [] forms) (texts_both forms) (λ tags are. says_tags are) (λ fault has. no_tag has)
 tags_both before (Group Round forms start last) = no_vector (a_misfit (λ row is. cc))
 tags_both before (Group Curly forms start last) = no_vector (a_misfit (λ row is. cc))
 tags_both before (Single (atom.Text text) start last) = no_vector (a_misfit (λ row is. cc))
@@ -214,7 +198,7 @@ no_vector_refuses _ _ (a_misfit {f = f} misfit) = other_tags f misfit
 tags_refuse : (f : FormTree) (fault : Fault) → HasTagsFault f fault → Refuses (tags_at f) fault
 tags_refuse f fault (no_vector misfit) = no_vector_refuses f fault misfit
 tags_refuse _ fault (no_tag {forms = forms} {start = start} {last = last} has) =
-    refuses_as (tags_at (Group Square forms start last)) (each (with_text []) [] forms) fault
+    refuses_as (tags_at (Group Square forms start last)) (each (onto (text_at [])) [] forms) fault
     (tags_group forms start last) (texts_refuse forms fault has)
 
 tags_read : (f : FormTree) (row : BareTrees) (tags : List (List ℕ)) → bare_tree f ≡ vector_of row → AreTexts [] row tags
@@ -222,7 +206,8 @@ tags_read : (f : FormTree) (row : BareTrees) (tags : List (List ℕ)) → bare_t
 tags_read f row tags h are =
     let group = group_of f Square row h in
     ap tags_at group.is ∙ tags_group group.forms group.start group.last
-    ∙ texts_read group.forms tags (subst (λ (r : BareTrees). AreTexts [] r tags) (sym group.forms_are) are)
+    ∙ all_read IsText (text_at []) text_is group.forms tags
+    (subst (λ (r : BareTrees). AreTexts [] r tags) (sym group.forms_are) are)
 
 -- ---- what comes after a key
 

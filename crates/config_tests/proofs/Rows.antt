@@ -3,10 +3,12 @@ use Rattle.std.proofs.Common.{◌≡◌, List, [], ◌∷◌, ◌++◌, append_a
 use Rattle.std.proofs.lemmas.List.{append-nil}
 use Rattle.sexp_read.specs.Tree.{FormTree, FormTrees, none, also}
 use Rattle.sexp_read.specs.Written.{BareTree, BareTrees, no_trees, and_trees, bare_tree, bare_trees}
-use Rattle.config_terms.specs.Steps.{Fault, ◌>>=◌, each}
+use Rattle.config_terms.specs.Steps.{Fault, ◌>>=◌, each, onto}
 use Rattle.config_terms.proofs.BareForms.{also_of, none_of}
 use Rattle.config_tests.specs.Faults.{and_forms, IsFirstFault}
-use Rattle.config_tests.specs.Grammar.{then_one, AreEach, no_more, one_more}
+use Rattle.config_terms.specs.Terms.{AreEach, no_more, one_more}
+use Rattle.config_tests.specs.Grammar.{then_one}
+use Rattle.config_terms.proofs.RowLaws.{each_none, each_more, all_read}
 use Rattle.config_tests.proofs.Refusals.{Refuses, Both, both_then, refuses_first, refuses_as}
 
 -- ---- forms after others
@@ -78,15 +80,6 @@ each_split {A} step a b (also f before) after is =
     same_next (step a f) b (λ c. each step c before) (λ c. each step c (and_forms before after)) (each step b after) is
     (λ c more. each_split step c b before after more)
 
-pub each_none : {A : Type 0} (step : A → FormTree → Result A Fault) (a : A) → each step a none ≡ Ok a
-unfolding each
-each_none step a = refl
-
-pub each_more : {A : Type 0} (step : A → FormTree → Result A Fault) (a b : A) (f : FormTree) (forms : FormTrees)
-    → step a f ≡ Ok b → each step a (also f forms) ≡ each step b forms
-unfolding each
-each_more step a b f forms is = rw is refl
-
 pub each_last : {A : Type 0} (step : A → FormTree → Result A Fault) (a b c : A) (before : FormTrees) (f : FormTree)
     → each step a before ≡ Ok b → step b f ≡ Ok c → each step a (and_form before f) ≡ Ok c
 each_last step a b c before f are is =
@@ -144,9 +137,6 @@ row_refuses step first made Are Has reads refused forms fault known =
 
 -- ---- forms that are each read by themselves
 
-abbrev pub onto : {A : Type 0} → (FormTree → Result A Fault) → List A → FormTree → Result (List A) Fault
-onto read all f = read f >>= λ a. Ok (all ++ a ∷ [])
-
 pub each_snoc : {A : Type 0} (Is : BareTree → A → Type 0) (row : BareTrees) (all : List A) (form : BareTree) (a : A)
     → AreEach Is row all → Is form a → AreEach Is (then_one row form) (all ++ a ∷ [])
 each_snoc Is _ _ form a no_more is = one_more is no_more
@@ -163,30 +153,6 @@ all_both Is Has read one forms =
     (λ row all f are. both_then (Is (bare_tree f)) (Has f) (Has f) (AreEach Is (then_one row (bare_tree f))) (read f)
     (λ a. Ok (all ++ a ∷ [])) (one f) (λ fault has. has)
     (λ a is. each_snoc Is row all (bare_tree f) a are is)) forms
-
-onto_is : {A : Type 0} (read : FormTree → Result A Fault) (before : List A) (a : A) (f : FormTree) → read f ≡ Ok a
-    → onto read before f ≡ Ok (before ++ a ∷ [])
-onto_is read before a f is = rw is refl
-
-pub all_onto : {A : Type 0} (Is : BareTree → A → Type 0) (read : FormTree → Result A Fault)
-    → ((f : FormTree) (a : A) → Is (bare_tree f) a → read f ≡ Ok a)
-    → (row : BareTrees) (all : List A) → AreEach Is row all → (forms : FormTrees) (before : List A)
-    → bare_trees forms ≡ row → each (onto read) before forms ≡ Ok (before ++ all)
-all_onto {A} Is read one _ _ no_more forms before h =
-    ap (each (onto read) before) (none_of forms h) ∙ each_none (onto read) before
-    ∙ ap (λ (all : List A). Ok all) (sym (append-nil before))
-all_onto {A} Is read one _ _ (one_more {form = form} {forms = row} {a = a} {all = all} is others) forms before h =
-    let parts = also_of forms form row h in
-    ap (each (onto read) before) parts.are
-    ∙ each_more (onto read) before (before ++ a ∷ []) parts.first parts.rest
-    (onto_is read before a parts.first (one parts.first a (subst (λ (t : BareTree). Is t a) (sym parts.first_is) is)))
-    ∙ all_onto Is read one row all others parts.rest (before ++ a ∷ []) parts.rest_are
-    ∙ ap (λ (more : List A). Ok more) (append_assoc before (a ∷ []) all)
-
-pub all_read : {A : Type 0} (Is : BareTree → A → Type 0) (read : FormTree → Result A Fault)
-    → ((f : FormTree) (a : A) → Is (bare_tree f) a → read f ≡ Ok a)
-    → (forms : FormTrees) (all : List A) → AreEach Is (bare_trees forms) all → each (onto read) [] forms ≡ Ok all
-all_read Is read one forms all are = all_onto Is read one (bare_trees forms) all are forms [] refl
 
 pub all_refuses : {A : Type 0} (Is : BareTree → A → Type 0) (Has : FormTree → Fault → Type 0)
     (read : FormTree → Result A Fault)

@@ -5,7 +5,7 @@ use Rattle.std.proofs.lemmas.Bool.{leb-true}
 use Rattle.std.specs.List.{AllByRecursion}
 use Rattle.sexp_read.specs.Tree.{FormTree, FormTrees, none, also}
 use Rattle.config_terms.specs.Code.{Look, Symbol, Call, Lookup, Other, look_of, later}
-use Rattle.config_terms.specs.Steps.{Fault, start_of, argument, at_most, each}
+use Rattle.config_terms.specs.Steps.{Fault, start_of, argument, at_most, each, onto}
 use Rattle.config_terms.specs.Arguments.{ranged_at, text_at}
 use Rattle.config_terms.proofs.Outcomes.{OkGood, Any_, any_good, bind_good, ok_if, ok_read}
 use Rattle.ev_types.specs.declared.item.Item.{Item}
@@ -20,8 +20,8 @@ use Rattle.config_tests.specs.declared.word.EntryWord.TheVariants as word
 use Rattle.config_tests.specs.Events.{seconds_in, event_of, IsShort}
 use Rattle.config_tests.specs.Maps.{described_at}
 use Rattle.config_tests.specs.Entries.{no_entries, passed, posted, expected, within, count_at, with_tick, with_event}
-use Rattle.config_tests.specs.Entries.{new_name, with_item, with_expect, entry_by, entry_looking, with_entry}
-use Rattle.config_tests.specs.Tests.{test_in, test_looking, with_test, test_from, read_without_names, tests_of}
+use Rattle.config_tests.specs.Entries.{new_name, with_expect, entry_by, entry_looking, with_entry, item_at}
+use Rattle.config_tests.specs.Tests.{test_in, test_looking, test_from, read_without_names, tests_of, test_at}
 use Rattle.config_tests.specs.Words.{entry_word, test_text}
 use Rattle.std.specs.Str.{bytes_eq}
 
@@ -97,7 +97,8 @@ expect_good start forms draft counted =
     bind_good Any_ IsCounted (text_at [] f) _ (any_good (text_at [] f)) (λ given _.
     bind_good Any_ IsCounted (new_name start draft.expects given) _ (any_good (new_name start draft.expects given))
     (λ name _.
-    bind_good Any_ IsCounted (each with_item [] (later 1 forms)) _ (any_good (each with_item [] (later 1 forms)))
+    bind_good Any_ IsCounted (each (onto item_at) [] (later 1 forms)) _
+    (any_good (each (onto item_at) [] (later 1 forms)))
     (λ items _. expect_counted draft name items counted))))
 
 entry_good : (found : Option EntryWord) (start : ℕ) (forms : FormTrees) (draft : Draft) → IsCounted draft
@@ -140,9 +141,9 @@ all_more : (tests : List Test) (test : Test) → AllByRecursion IsShort tests �
 all_more [] test all short = (short, tt)
 all_more (first ∷ tests) test all short = (all.0, all_more tests test all.1 short)
 
-tests_good : (forms : FormTrees) → OkGood (AllByRecursion IsShort) (each with_test [] forms)
+tests_good : (forms : FormTrees) → OkGood (AllByRecursion IsShort) (each (onto test_at) [] forms)
 tests_good forms =
-    each_good (AllByRecursion IsShort) with_test (λ tests f all.
+    each_good (AllByRecursion IsShort) (onto test_at) (λ tests f all.
     bind_good IsShort (AllByRecursion IsShort) (test_looking (start_of f) (look_of f)) (λ test. Ok (tests ++ test ∷ []))
     (test_look_good (start_of f) (look_of f)) (λ test short. all_more tests test all short))
     forms [] tt
@@ -155,5 +156,5 @@ without_names_good P (Err fault) good = tt
 pub tests_short : (forms : FormTrees) (tests : List Test) → tests_of forms ≡ Ok tests → AllByRecursion IsShort tests
 unfolding tests_of
 tests_short forms tests are =
-    ok_read (AllByRecursion IsShort) (read_without_names (each with_test [] forms)) tests are
-    (without_names_good (AllByRecursion IsShort) (each with_test [] forms) (tests_good forms))
+    ok_read (AllByRecursion IsShort) (read_without_names (each (onto test_at) [] forms)) tests are
+    (without_names_good (AllByRecursion IsShort) (each (onto test_at) [] forms) (tests_good forms))

@@ -7,7 +7,7 @@ use Rattle.sexp_read.specs.Tree.{FormTree, FormTrees, none, also}
 use Rattle.sexp_read.specs.Written.{BareTree, BareTrees, and_trees, bare_tree, bare_trees}
 use Rattle.config_terms.specs.declared.fault.ConfigWhy.TheVariants as why
 use Rattle.config_terms.specs.Code.{Look, Symbol, Call, Lookup, Other, look_of}
-use Rattle.config_terms.specs.Steps.{Fault, ◌>>=◌, start_of, argument, each}
+use Rattle.config_terms.specs.Steps.{Fault, ◌>>=◌, start_of, argument, each, onto}
 use Rattle.config_terms.specs.Arguments.{text_at}
 use Rattle.config_terms.specs.Grammar.{worded}
 use Rattle.config_terms.proofs.BareForms.{also_of}
@@ -18,14 +18,15 @@ use Rattle.config_tests.specs.Entries.{no_entries as no_draft, with_entry}
 use Rattle.config_tests.specs.Faults.{IsListOf, IsMisfit, HaveEntryFault, HasTestFault, no_test, no_name, test_name}
 use Rattle.config_tests.specs.Faults.{test_entry, HaveTestFault}
 use Rattle.config_tests.specs.Grammar.{IsText, AreEntries, IsTest, a_test, AreTests}
-use Rattle.config_tests.specs.Tests.{test_from, test_in, test_by, test_looking, test_at, with_test, read_without_names}
+use Rattle.config_tests.specs.Tests.{test_from, test_in, test_by, test_looking, test_at, read_without_names}
 use Rattle.config_tests.specs.Tests.{tests_of, TestsAreRead, FaultsAreFirst}
 use Rattle.config_tests.specs.Words.{test_text}
 use Rattle.config_tests.proofs.EntriesRead.{HeadIs, heads, looks, same_name, named_so, bare_list, list_of, draft_of}
 use Rattle.config_tests.proofs.EntriesRead.{Holds, entries_both, entries_read, entries_refuse}
 use Rattle.config_tests.proofs.Refusals.{Refuses, Both, both_then, both_ok, both_err, refuses_first, refuses_next}
 use Rattle.config_tests.proofs.Refusals.{refuses_as, text_both, text_refuses}
-use Rattle.config_tests.proofs.Rows.{all_both, all_read, all_refuses}
+use Rattle.config_terms.proofs.RowLaws.{all_read}
+use Rattle.config_tests.proofs.Rows.{all_both, all_refuses}
 
 -- ---- what follows `test`
 
@@ -141,11 +142,12 @@ test_refuses f fault (test_entry {x = x} {forms = forms} {name = name} call is h
 
 -- ---- all tests
 
-tests_both : (forms : FormTrees) → Both (AreTests (bare_trees forms)) (HaveTestFault forms) (each with_test [] forms)
+tests_both : (forms : FormTrees) → Both (AreTests (bare_trees forms)) (HaveTestFault forms)
+    (each (onto test_at) [] forms)
 tests_both forms = all_both IsTest HasTestFault test_at test_both forms
 
 tests_given : (forms : FormTrees) (tests : List Test) → AreTests (bare_trees forms) tests
-    → each with_test [] forms ≡ Ok tests
+    → each (onto test_at) [] forms ≡ Ok tests
 tests_given forms tests are = all_read IsTest test_at test_read forms tests are
 
 read_ok : (read : Result (List Test) Fault) (tests : List Test) → read_without_names read ≡ Ok tests → read ≡ Ok tests
@@ -156,14 +158,14 @@ pub tests_are_read : TestsAreRead
 unfolding tests_of
 tests_are_read forms tests = (
   (λ are. ap read_without_names (tests_given forms tests are)),
-  (λ is. both_ok (AreTests (bare_trees forms)) (HaveTestFault forms) (each with_test [] forms) tests
-      (read_ok (each with_test [] forms) tests is) (tests_both forms)),
+  (λ is. both_ok (AreTests (bare_trees forms)) (HaveTestFault forms) (each (onto test_at) [] forms) tests
+      (read_ok (each (onto test_at) [] forms) tests is) (tests_both forms)),
 )
 
 pub faults_are_first : FaultsAreFirst
 unfolding tests_of
 faults_are_first forms place why = (
   (λ known. all_refuses IsTest HasTestFault test_at test_read test_refuses forms (place, why) known),
-  (λ is. both_err (AreTests (bare_trees forms)) (HaveTestFault forms) (each with_test [] forms) (place, why) is
+  (λ is. both_err (AreTests (bare_trees forms)) (HaveTestFault forms) (each (onto test_at) [] forms) (place, why) is
       (tests_both forms)),
 )

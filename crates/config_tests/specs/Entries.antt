@@ -10,7 +10,7 @@ use Rattle.sexp_read.specs.declared.piece.Bracket.TheVariants.{Square}
 use Rattle.sexp_read.specs.Tree.{FormTree, FormTrees}
 use Rattle.config_terms.specs.declared.fault.ConfigWhy.TheVariants as why
 use Rattle.config_terms.specs.Code.{Look, Call, look_of, later}
-use Rattle.config_terms.specs.Steps.{Fault, ◌>>=◌, start_of, argument, at_most, each}
+use Rattle.config_terms.specs.Steps.{Fault, ◌>>=◌, start_of, argument, at_most, each, onto}
 use Rattle.config_terms.specs.Arguments.{Argument, Forms, argument_of, has_field, ranged_at, some_of, text_at}
 use Rattle.config_tests.specs.declared.draft.Draft.{Draft}
 use Rattle.config_tests.specs.declared.draft.TheConstants.{MAX_SECONDS, MAX_TICK}
@@ -73,12 +73,9 @@ timed place described = if has_field Time described.sets then Ok (event_of 0 des
 unfoldable pub timed_at : FormTree → Result Event Fault
 timed_at f = described_at f >>= timed (start_of f)
 
-abbrev pub with_timed : List Event → FormTree → Result (List Event) Fault
-with_timed events f = timed_at f >>= λ event. Ok (events ++ event ∷ [])
-
 -- events in a vector, of which there is one at least
 abbrev pub some_timed : ℕ → FormTrees → Result (List Event) Fault
-some_timed place forms = each with_timed [] forms >>= some_of place
+some_timed place forms = each (onto timed_at) [] forms >>= some_of place
 
 abbrev pub item_by : FormTree → Argument → Result Item Fault
 item_by f (Forms Square forms) = some_timed (start_of f) forms >>= λ events. Ok (Many events)
@@ -86,9 +83,6 @@ item_by f given = timed_at f >>= λ event. Ok (One event)
 
 unfoldable pub item_at : FormTree → Result Item Fault
 item_at f = item_by f (argument_of [] f)
-
-abbrev pub with_item : List Item → FormTree → Result (List Item) Fault
-with_item items f = item_at f >>= λ item. Ok (items ++ item ∷ [])
 
 -- something is expected under each name once at most
 abbrev pub new_name : ℕ → List Expect → List ℕ → Result (List ℕ) Fault
@@ -99,7 +93,7 @@ with_expect start forms draft =
     argument start 0 forms >>= λ f.
     text_at [] f >>= λ given.
     new_name start draft.expects given >>= λ name.
-    each with_item [] (later 1 forms) >>= λ items.
+    each (onto item_at) [] (later 1 forms) >>= λ items.
     Ok (expected name items draft)
 
 -- ---- entries

@@ -23,7 +23,8 @@ use Rattle.config_tests.specs.declared.map.MapKey.{MapKey}
 use Rattle.config_tests.specs.declared.map.MapKey.TheVariants as key
 use Rattle.config_tests.specs.declared.word.EntryWord.{EntryWord}
 use Rattle.config_tests.specs.declared.word.EntryWord.TheVariants as word
-use Rattle.config_tests.specs.Grammar.{AreEach, IsText, IsCount, IsKey, has_key, AreParts, IsMap, IsTimed, IsItem, Told}
+use Rattle.config_terms.specs.Terms.{AreEach}
+use Rattle.config_tests.specs.Grammar.{IsText, IsCount, IsKey, has_key, AreParts, IsMap, IsTimed, IsItem, Told}
 use Rattle.config_tests.specs.Grammar.{passed_in, has_expect, AreEntries, IsTest}
 use Rattle.config_tests.specs.Words.{entry_text, test_text}
 

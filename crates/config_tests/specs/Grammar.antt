@@ -15,7 +15,7 @@ use Rattle.sexp_read.specs.Written.{BareTree, BareTrees, no_trees, and_trees, li
 use Rattle.config_terms.specs.declared.binding.Bound.TheVariants as bound
 use Rattle.config_terms.specs.Arguments.{has_field}
 use Rattle.config_terms.specs.Grammar.{worded, IsLiteral}
-use Rattle.config_terms.specs.Terms.{vector_of, map_of, IsRanged, IsField, IsSet, AreTexts}
+use Rattle.config_terms.specs.Terms.{vector_of, map_of, IsRanged, IsField, IsSet, AreEach, AreTexts}
 use Rattle.config_tests.specs.declared.draft.TheConstants.{MAX_SECONDS, MAX_TICK}
 use Rattle.config_tests.specs.declared.entry.Entry.{Entry}
 use Rattle.config_tests.specs.declared.entry.Entry.TheVariants as entry
@@ -32,12 +32,6 @@ use Rattle.config_tests.specs.Events.{event_of, seconds_in}
 abbrev pub then_one : BareTrees → BareTree → BareTrees
 then_one no_trees form = and_trees form no_trees
 then_one (and_trees first forms) form = and_trees first (then_one forms form)
-
--- each form represents the value in its place in the list
-pub data AreEach {A : Type 0} (Is : BareTree → A → Type 0) : BareTrees → List A → Type 0 where
-  no_more : AreEach Is no_trees []
-  one_more : {form : BareTree} {forms : BareTrees} {a : A} {all : List A} → Is form a → AreEach Is forms all
-      → AreEach Is (and_trees form forms) (a ∷ all)
 
 -- ---- arguments
 

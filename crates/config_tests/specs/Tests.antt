@@ -13,7 +13,7 @@ use Rattle.config_terms.specs.declared.fault.ConfigFault.TheVariants as config_f
 use Rattle.config_terms.specs.declared.fault.ConfigWhy.{ConfigWhy}
 use Rattle.config_terms.specs.declared.fault.ConfigWhy.TheVariants as why
 use Rattle.config_terms.specs.Code.{Look, Call, look_of, later}
-use Rattle.config_terms.specs.Steps.{Fault, ◌>>=◌, start_of, argument, each}
+use Rattle.config_terms.specs.Steps.{Fault, ◌>>=◌, start_of, argument, each, onto}
 use Rattle.config_terms.specs.Arguments.{text_at}
 use Rattle.config_tests.specs.declared.draft.Draft.{Draft}
 use Rattle.config_tests.specs.declared.entry.Test.{Test}
@@ -47,9 +47,6 @@ test_looking start _ = Err (start, why.Form)
 abbrev pub test_at : FormTree → Result Test Fault
 test_at f = test_looking (start_of f) (look_of f)
 
-abbrev pub with_test : List Test → FormTree → Result (List Test) Fault
-with_test tests f = test_at f >>= λ test. Ok (tests ++ test ∷ [])
-
 -- no names are bound in tests, so a symbol is an argument that does not fit, as any other
 abbrev pub without_names : ConfigWhy → ConfigWhy
 without_names why.Name = why.Arguments
@@ -62,7 +59,7 @@ read_without_names (Err fault) = Err (fault.0, without_names fault.1)
 -- What the forms of a text are read as, step by step. Which forms represent tests is said by the grammar, and which
 -- fault of the others is the first by a relation; that the steps keep to both are laws.
 unfoldable pub tests_of : FormTrees → Result (List Test) Fault
-tests_of forms = read_without_names (each with_test [] forms)
+tests_of forms = read_without_names (each (onto test_at) [] forms)
 
 -- forms are read as tests exactly where they represent these
 abbrev pub TestsAreRead : Type 0

@@ -1,6 +1,6 @@
 -- The words of tests.
-use Rattle.std.specs.Prelude.{ℕ, List, Option, None, codes}
-use Rattle.config_terms.specs.Words.{where_named}
+use Rattle.std.specs.Prelude.{ℕ, List, [], ◌∷◌, Option, codes}
+use Rattle.config_terms.specs.Words.{named}
 use Rattle.config_tests.specs.declared.word.EntryWord.{EntryWord}
 use Rattle.config_tests.specs.declared.word.EntryWord.TheVariants.{Tick, Event, Expect}
 
@@ -14,11 +14,8 @@ entry_text Tick = codes "tick"
 entry_text Event = codes "event"
 entry_text Expect = codes "expect"
 
-abbrev is_entry : List ℕ → EntryWord → Option EntryWord → Option EntryWord
-is_entry name word = where_named name (entry_text word) word
+abbrev pub entry_words : List EntryWord
+entry_words = Tick ∷ Event ∷ Expect ∷ []
 
 unfoldable pub entry_word : List ℕ → Option EntryWord
-entry_word name =
-    is_entry name Tick
-    (is_entry name Event
-    (is_entry name Expect None))
+entry_word = named entry_text entry_words

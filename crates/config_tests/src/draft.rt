@@ -2,10 +2,10 @@
 
 ghost use Rattle.std.specs.Prelude.{◌≡◌, ◌+◌, ◌≤◌, [], IfOk, OnOk, Ok};
 ghost use Rattle.sexp_read.specs.Tree.{form_tree, form_trees};
-ghost use Rattle.config_terms.specs.Steps.{Gives, GivesAs, each};
+ghost use Rattle.config_terms.specs.Steps.{Gives, GivesAs, each, onto};
 ghost use Rattle.config_tests.specs.Words.{entry_word as entry_word_of};
 ghost use Rattle.config_tests.specs.Grammar.{has_expect};
-ghost use Rattle.config_tests.specs.Entries.{no_entries, passed, posted, expected, count_at as count_from, timed, timed_at as timed_from, with_timed, some_timed, item_at as item_from, with_item, with_tick, with_event, with_expect, entry_by, with_entry};
+ghost use Rattle.config_tests.specs.Entries.{no_entries, passed, posted, expected, count_at as count_from, timed, timed_at as timed_from, some_timed, item_at as item_from, with_tick, with_event, with_expect, entry_by, with_entry};
 
 use crate::entry::{Entries, Entry, Expect, Expects, Test};
 use crate::map::{Described, described_at};
@@ -212,7 +212,7 @@ fn timed(alloc: Global, place: usize, described: Described) -> Result<Event, Con
 
 #[tactic(auto, unfolding(config_terms::specs::Steps::each))]
 fn events_in(alloc: Global, forms: &[Form]) -> Result<Events, ConfigFault>
-    ensures { Gives result (each with_timed [] (form_trees forms.now)) }
+    ensures { Gives result (each (onto timed_from) [] (form_trees forms.now)) }
 {
     let mut events = Events::fresh(alloc);
     let mut left = forms;
@@ -248,7 +248,7 @@ fn item_at(alloc: Global, form: &Form) -> Result<Item, ConfigFault>
 
 #[tactic(auto, unfolding(config_terms::specs::Steps::each))]
 fn items_in(alloc: Global, forms: &[Form]) -> Result<Items<Item>, ConfigFault>
-    ensures { Gives result (each with_item [] (form_trees forms.now)) }
+    ensures { Gives result (each (onto item_from) [] (form_trees forms.now)) }
 {
     let mut items = Items::fresh(alloc);
     let mut left = forms;

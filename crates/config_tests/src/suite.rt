@@ -2,8 +2,8 @@
 
 ghost use Rattle.std.specs.Prelude.{[], Ok};
 ghost use Rattle.sexp_read.specs.Tree.{form_tree, form_trees};
-ghost use Rattle.config_terms.specs.Steps.{Gives, each};
-ghost use Rattle.config_tests.specs.Tests.{test_in as test_of_forms, test_by, test_at as test_from, with_test};
+ghost use Rattle.config_terms.specs.Steps.{Gives, each, onto};
+ghost use Rattle.config_tests.specs.Tests.{test_in as test_of_forms, test_by, test_at as test_from};
 
 use crate::draft::entries_in;
 use crate::entry::{Test, Tests};
@@ -47,7 +47,7 @@ fn test_at(alloc: Global, form: &Form) -> Result<Test, ConfigFault>
 /// The tests that the forms are.
 #[tactic(auto, unfolding(config_terms::specs::Steps::each))]
 pub(crate) fn tests_in(alloc: Global, forms: &[Form]) -> Result<Tests, ConfigFault>
-    ensures { Gives result (each with_test [] (form_trees forms.now)) }
+    ensures { Gives result (each (onto test_from) [] (form_trees forms.now)) }
 {
     let mut tests = Tests::fresh(alloc);
     let mut left = forms;

@@ -3,7 +3,6 @@
 ghost use Rattle.std.specs.Prelude.{◌≡◌};
 ghost use Rattle.config_tests.specs.Words.{entry_word};
 
-use config_terms::is;
 use ev_types::Text;
 
 /// A word that begins an entry of a test.
@@ -19,14 +18,10 @@ pub(crate) enum EntryWord {
 pub(crate) fn entry_word(name: &Text) -> Option<EntryWord>
     ensures { result ≡ entry_word name.now }
 {
-    let name = name.as_bytes();
-    if is(name, b"tick") {
-        Some(EntryWord::Tick)
-    } else if is(name, b"event") {
-        Some(EntryWord::Event)
-    } else if is(name, b"expect") {
-        Some(EntryWord::Expect)
-    } else {
-        None
+    match name.as_str() {
+        "tick" => Some(EntryWord::Tick),
+        "event" => Some(EntryWord::Event),
+        "expect" => Some(EntryWord::Expect),
+        _ => None,
     }
 }

@@ -22,7 +22,7 @@ use Rattle.stream_plan.specs.Tree.{kind_tree, stream_tree, list_trees}
 use Rattle.stream_plan.proofs.Trees.{stream_tree-opened}
 use Rattle.config_terms.specs.declared.word.RuleWord.TheVariants as rule
 use Rattle.config_terms.specs.declared.word.StreamWord.TheVariants as word
-use Rattle.config_terms.specs.Words.{rule_text, stream_text}
+use Rattle.config_terms.specs.Words.{rule_text, stream_text, else_text}
 use Rattle.sexp_config.specs.Canonical.{bare_form, bare_forms, text_form, field_form, value_form, keep_form}
 use Rattle.sexp_config.specs.Canonical.{symbol_form, list_form, worded_form, rule_form, rule_forms, set_forms}
 use Rattle.sexp_config.specs.Canonical.{kind_forms, kind_form, else_forms, stream_form, stream_forms}
@@ -174,18 +174,18 @@ stream_listed s children otherwise first second third other same rest leads belo
 
 else_some : (streams : List Stream) → 0 < length streams
     → else_forms (stream_forms (list_trees streams))
-    ≡ worded_form (stream_text word.Else) (stream_forms (list_trees streams)) ∷ []
+    ≡ worded_form (else_text) (stream_forms (list_trees streams)) ∷ []
 else_some [] some = absurd (omega arith)
 else_some (s ∷ streams) some = refl
 
 pub else_put : (streams : List Stream) (begun rest old new : List BareTree) (form : BareTree) (empty : Bool)
     → empty ≡ nat_eq (length streams) 0 → empty ≡ false
-    → begun ≡ symbol_form (stream_text word.Else) ∷ [] → rest ≡ begun ++ stream_forms (list_trees streams)
+    → begun ≡ symbol_form (else_text) ∷ [] → rest ≡ begun ++ stream_forms (list_trees streams)
     → form ≡ list_form rest → new ≡ old ++ form ∷ []
     → new ≡ old ++ else_forms (stream_forms (list_trees streams))
 else_put streams begun rest old new form empty test is first all listed_form put =
     let some : 0 < length streams = grind (arith, nat_tests) in
-    let whole : form ≡ worded_form (stream_text word.Else) (stream_forms (list_trees streams)) =
+    let whole : form ≡ worded_form (else_text) (stream_forms (list_trees streams)) =
     listed_form
     ∙ ap list_form (all ∙ ap (λ (forms : List BareTree). forms ++ stream_forms (list_trees streams)) first) in
     put ∙ ap (λ (one : BareTree). old ++ one ∷ []) whole

@@ -24,10 +24,11 @@ use Rattle.config_terms.specs.Grammar.{IsLiteral, a_text, a_pattern, a_number, a
 use Rattle.config_terms.specs.Grammar.{number_value, nil_value, IsTested, bare, keyed, all_of, any_of, IsPredicate}
 use Rattle.config_terms.specs.Grammar.{always, never, never_nil, all_parts, any_part, negated, tagged, equal, unequal}
 use Rattle.config_terms.specs.Grammar.{compared, like, holds, found, ArePredicates, no_parts, more_parts}
-use Rattle.config_terms.specs.Terms.{IsField, a_field, AreTexts, no_texts, more_texts, IsTexts, text_alone, text_vector}
-use Rattle.config_terms.specs.Terms.{AreFields, no_fields, more_fields, IsFields, field_alone, field_vector, a_set}
+use Rattle.config_terms.specs.Terms.{IsField, a_field, AreEach, no_more, one_more, AreTexts, IsTexts, text_alone, text_vector}
+use Rattle.config_terms.specs.Terms.{IsFields, field_alone, field_vector, a_set}
 use Rattle.config_terms.specs.Terms.{AreSets, no_sets, more_sets}
 use Rattle.config_terms.proofs.Outcomes.{SomeGood, some_found}
+use Rattle.config_terms.proofs.GrammarOnly.{TextIs}
 use Rattle.sexp_config.specs.Canonical.{text_form, vector_form, value_form, field_form, rule_field_form, rule_form}
 use Rattle.sexp_config.specs.Canonical.{rule_forms, set_forms}
 
@@ -266,41 +267,36 @@ mutual
 
 -- ---- vectors and maps
 
+-- forms in a row, where the canonical form of each value represents it too and can be written
+pub each_written : {A : Type 0} (Is : Env → BareTree → A → Type 0) (form_of : A → BareTree) (env : Env)
+    → ((x : BareTree) (a : A) → Is env x a → IsWritableTree x → Is [] (form_of a) a × IsWritableTree (form_of a))
+    → (forms : BareTrees) (all : List A) → AreEach (Is env) forms all → AreWritable forms
+    → AreEach (Is []) (listed (map form_of all)) all × AreWritable (listed (map form_of all))
+each_written Is form_of env one _ _ no_more w = (no_more, tt)
+each_written Is form_of env one _ _ (one_more {form = x} {forms = forms} {a = a} {all = all} is others) w =
+    let first = one x a is w.0 in
+    let more = each_written Is form_of env one forms all others w.1 in
+    (one_more first.0 more.0, (first.1, more.1))
+
 abbrev pub TextsWritten : List (List ℕ) → Type 0
 TextsWritten texts = AreTexts [] (listed (map text_form texts)) texts × AreWritable (listed (map text_form texts))
-
-text_row : (env : Env) → GoodEnv env → (forms : BareTrees) (texts : List (List ℕ)) → AreTexts env forms texts
-    → AreWritable forms → TextsWritten texts
-text_row env e _ _ no_texts w = (no_texts, tt)
-text_row env e _ _ (more_texts {form = form} {forms = forms} {text = text} {texts = texts} is others) w =
-    let more = text_row env e forms texts others w.1 in
-    (more_texts a_text more.0, (literal_good env e form (bound.Text text) is w.0, more.1))
 
 pub texts_written : (env : Env) → GoodEnv env → (form : BareTree) (texts : List (List ℕ)) → IsTexts env form texts
     → IsWritableTree form → TextsWritten texts
 texts_written env e form _ (text_alone {text = text} is) w =
-    (more_texts a_text no_texts, (literal_good env e form (bound.Text text) is w, tt))
-texts_written env e _ texts (text_vector {forms = forms} are) w = text_row env e forms texts are w
-
-abbrev FieldsWritten : List Field → Type 0
-FieldsWritten fields =
-    AreFields [] (listed (map field_form fields)) fields × AreWritable (listed (map field_form fields))
-
-field_row : (env : Env) → GoodEnv env → (forms : BareTrees) (fields : List Field) → AreFields env forms fields
-    → AreWritable forms → FieldsWritten fields
-field_row env e _ _ no_fields w = (no_fields, tt)
-field_row env e _ _ (more_fields {form = form} {forms = forms} {field = one} {fields = fields} is others) w =
-    let one_is = field_written env e form one is w.0 in
-    let more = field_row env e forms fields others w.1 in
-    (more_fields one_is.0 more.0, (one_is.1, more.1))
+    (one_more a_text no_more, (literal_good env e form (bound.Text text) is w, tt))
+texts_written env e form texts (text_vector {forms = forms} are) w =
+    each_written TextIs text_form env (λ x text is w. (a_text, literal_good env e x (bound.Text text) is w)) forms texts
+    are w
 
 pub fields_written : (env : Env) → GoodEnv env → (form : BareTree) (fields : List Field) → IsFields env form fields
     → IsWritableTree form
     → IsFields [] (vector_form (map field_form fields)) fields × IsWritableTree (vector_form (map field_form fields))
 fields_written env e form _ (field_alone {field = one} is) w =
-    let one_is = field_written env e form one is w in (field_vector (more_fields one_is.0 no_fields), (one_is.1, tt))
+    let one_is = field_written env e form one is w in (field_vector (one_more one_is.0 no_more), (one_is.1, tt))
 fields_written env e _ _ (field_vector {forms = forms} {field = one} {fields = fields} are) w =
-    let all = field_row env e forms (one ∷ fields) are w in (field_vector all.0, all.1)
+    let all = each_written IsField field_form env (field_written env e) forms (one ∷ fields) are w in
+    (field_vector all.0, all.1)
 
 pub sets_written : (env : Env) → GoodEnv env → (forms : BareTrees) (sets : List Set) → AreSets env forms sets
     → AreWritable forms → AreSets [] (listed (set_forms sets)) sets × AreWritable (listed (set_forms sets))

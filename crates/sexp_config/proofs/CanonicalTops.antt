@@ -18,7 +18,7 @@ use Rattle.config_terms.specs.declared.binding.Bound.TheVariants as bound
 use Rattle.config_terms.specs.declared.binding.Binding.{Binding}
 use Rattle.config_terms.specs.Arguments.{Env}
 use Rattle.config_terms.specs.Grammar.{a_text, a_number, a_keyword}
-use Rattle.config_terms.specs.Terms.{IsRanged, a_ranged, a_field}
+use Rattle.config_terms.specs.Terms.{IsRanged, a_ranged, a_field, no_more, one_more, only}
 use Rattle.config_streams.proofs.GrammarRead.{with_none}
 use Rattle.sexp_config.specs.declared.config.Config.{Config}
 use Rattle.sexp_config.specs.Canonical.{keyword_form, text_form, number_form, vector_form, map_form, keep_form}
@@ -26,12 +26,12 @@ use Rattle.sexp_config.specs.Canonical.{server_form, expiry_form, expiry_forms, 
 use Rattle.config_terms.specs.Words.{keep_text, host_text, port_text}
 use Rattle.sexp_config.specs.Grammar.{IsNamed, a_value, the_index, AreNames, no_names, more_names, Server, listening}
 use Rattle.sexp_config.specs.Grammar.{AreEntries, no_entries, a_host, a_port, IsServer, by_default, by_map, field_key}
-use Rattle.sexp_config.specs.Grammar.{tags_key, AreKeys, no_keys, more_keys, host_and_service, IsExpiry, every_ten}
+use Rattle.sexp_config.specs.Grammar.{tags_key, IsKey, AreKeys, key_vector, host_and_service, IsExpiry, every_ten}
 use Rattle.sexp_config.specs.Grammar.{every, keeping, Said, nothing_said, IsTop, a_server, an_expiry, some_streams}
 use Rattle.sexp_config.specs.Grammar.{with_names, AreTops, no_tops, more_tops, AreConfig}
 use Rattle.config_terms.proofs.Outcomes.{SomeGood}
 use Rattle.sexp_config.proofs.CanonicalTerms.{AllGood, all_both, GoodBound, GoodBinding, GoodEnv, literal_good}
-use Rattle.sexp_config.proofs.CanonicalTerms.{field_written}
+use Rattle.sexp_config.proofs.CanonicalTerms.{field_written, each_written}
 use Rattle.sexp_config.proofs.CanonicalStreams.{number_written, AllWritten, row_written, joined_written}
 use Rattle.sexp_config.proofs.CanonicalStreams.{streams_written}
 
@@ -114,20 +114,16 @@ server_written env e _ _ (by_map {entries = entries} {host = host} {port = port}
 abbrev KeysWritten : List KeepKey → Type 0
 KeysWritten keys = AreKeys [] (listed (map keep_form keys)) keys × AreWritable (listed (map keep_form keys))
 
-keys_written : (env : Env) → GoodEnv env → (forms : BareTrees) (keys : List KeepKey) → AreKeys env forms keys
-    → AreWritable forms → KeysWritten keys
-keys_written env e _ _ no_keys w = (no_keys, tt)
-keys_written env e _ _ (more_keys {form = form} {forms = forms} {keys = keys} (field_key {field = one} is) others) w =
-    let one_is = field_written env e form one is w.0 in
-    let more = keys_written env e forms keys others w.1 in
-    (more_keys (field_key one_is.0) more.0, (one_is.1, more.1))
-keys_written env e _ _ (more_keys {forms = forms} {keys = keys} (tags_key is) others) w =
-    let more = keys_written env e forms keys others w.1 in (more_keys (tags_key a_keyword) more.0, (refl, more.1))
+key_written : (env : Env) → GoodEnv env → (form : BareTree) (key : KeepKey) → IsKey env form key → IsWritableTree form
+    → IsKey [] (keep_form key) key × IsWritableTree (keep_form key)
+key_written env e form _ (field_key {field = one} is) w =
+    let one_is = field_written env e form one is w in (field_key one_is.0, one_is.1)
+key_written env e form _ (tags_key is) w = (tags_key a_keyword, refl)
 
 default_keys : KeysWritten host_and_service
 unfolding named_field protocol_field
 default_keys = (
-  more_keys (field_key (a_field a_keyword refl)) (more_keys (field_key (a_field a_keyword refl)) no_keys),
+  one_more (field_key (a_field a_keyword refl)) (one_more (field_key (a_field a_keyword refl)) no_more),
   (refl, (refl, tt)),
 )
 
@@ -143,7 +139,7 @@ expiry_is : (expiry : Expiry)
     → IsRanged 1 MAX_SECS [] (number_form (pos expiry.interval)) expiry.interval
     × IsWritableTree (number_form (pos expiry.interval))
     → KeysWritten expiry.keep → ExpiryWritten expiry
-expiry_is expiry number keys = (keeping number.0 a_keyword keys.0, (refl, (number.1, ((refl, (keys.1, tt)), tt))))
+expiry_is expiry number keys = (keeping number.0 (only a_keyword (key_vector keys.0)), (refl, (number.1, ((refl, (keys.1, tt)), tt))))
 
 expiry_written : (env : Env) → GoodEnv env → (forms : BareTrees) (expiry : Expiry) → IsExpiry env forms expiry
     → AreWritable forms → ExpiryWritten expiry
@@ -153,9 +149,9 @@ expiry_written env e _ _ every_ten w =
 expiry_written env e _ _ (every {n = n} {secs = secs} is) w =
     expiry_is (record { interval = secs; keep = host_and_service }) (number_written 1 MAX_SECS env e n secs is w.0)
     default_keys
-expiry_written env e _ _ (keeping {n = n} {forms = forms} {secs = secs} {keys = keys} is key are) w =
+expiry_written env e _ _ (keeping {n = n} {secs = secs} is (only key (key_vector {forms = forms} {keys = keys} are))) w =
     expiry_is (record { interval = secs; keep = keys }) (number_written 1 MAX_SECS env e n secs is w.0)
-    (keys_written env e forms keys are w.1.0.1.0)
+    (each_written IsKey keep_form env (key_written env e) forms keys are w.1.0.1.0)
 
 -- ---- forms at the top
 

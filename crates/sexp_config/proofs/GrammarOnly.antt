@@ -1,14 +1,10 @@
 -- What is read as names, a server or an expiry is what the grammar says.
-use Rattle.std.proofs.Common.{◌≡◌, ℕ, Bool, true, false, codes, List, [], ◌∷◌, ◌++◌, append_assoc, Option, Some, None}
-use Rattle.std.proofs.Common.{Result, Ok, Err, refl, ap, sym, ◌∙◌, subst}
-use Rattle.std.proofs.lemmas.List.{append-nil}
+use Rattle.std.proofs.Common.{◌≡◌, ℕ, Bool, true, false, codes, List, [], ◌∷◌, ◌++◌, Option, Some, None}
+use Rattle.std.proofs.Common.{Ok, Err, refl, ap, sym, ◌∙◌, subst}
 use Rattle.std.proofs.lemmas.Slice.Eq.{bytes_eq-Decides}
 use Rattle.std.specs.Option.{option_or}
 use Rattle.std.specs.Str.{bytes_eq}
-use Rattle.ev_types.specs.declared.field.Field.{Field}
 use Rattle.ev_types.specs.declared.settings.KeepKey.{KeepKey}
-use Rattle.ev_types.specs.declared.settings.KeepKey.TheVariants as keep
-use Rattle.ev_types.specs.Names.{named_field}
 use Rattle.sexp_read.specs.declared.piece.Atom.TheVariants as atom
 use Rattle.sexp_read.specs.declared.piece.Bracket.TheVariants.{Round, Square, Curly}
 use Rattle.sexp_read.specs.Tree.{FormTree, FormTrees, Single, Group, none, also}
@@ -17,87 +13,34 @@ use Rattle.stream_plan.specs.declared.kinds.TheConstants.{MAX_SECS}
 use Rattle.config_terms.specs.declared.binding.Bound.{Bound}
 use Rattle.config_terms.specs.declared.binding.Bound.TheVariants as bound
 use Rattle.config_terms.specs.declared.word.StreamWord.TheVariants as word
-use Rattle.config_terms.specs.Steps.{Fault, ◌>>=◌, start_of, argument, at_most, each}
-use Rattle.config_terms.specs.Words.{stream_text, tags_text, keep_text, host_text, port_text}
-use Rattle.config_terms.specs.Arguments.{Env, bound_value, Argument, Text, Pattern, Number, Keyword, Index, Unbound}
-use Rattle.config_terms.specs.Arguments.{Forms, bound_argument, argument_of, vector_in, map_in, text_at, keyword_at}
-use Rattle.config_terms.specs.Arguments.{ranged_at, vector_at, map_at, only_key, only_key_at, one_entry}
+use Rattle.config_terms.specs.Steps.{◌>>=◌, start_of, argument, at_most}
+use Rattle.config_terms.specs.Words.{stream_text, keep_text, host_text, port_text}
+use Rattle.config_terms.specs.Arguments.{Env, bound_value}
+use Rattle.config_terms.specs.Arguments.{bound_argument, argument_of, text_at, keyword_at}
+use Rattle.config_terms.specs.Arguments.{ranged_at, vector_at, map_at, one_entry}
 use Rattle.config_terms.specs.Grammar.{symbol, worded, IsLiteral, a_text, a_pattern, a_number, a_keyword, a_name}
-use Rattle.config_terms.specs.Terms.{vector_of, map_of, IsRanged, a_field}
-use Rattle.config_terms.proofs.Outcomes.{OkGood, SomeGood, Any_, bind_good, any_good, weaker, ok_if, some_if}
-use Rattle.config_terms.proofs.Outcomes.{fitting_good}
-use Rattle.config_terms.proofs.GrammarOnly.{TextIs, Meaning, taken_means, text_means}
+use Rattle.config_terms.specs.Terms.{vector_of, map_of, IsRanged, IsOnly}
+use Rattle.config_terms.proofs.Outcomes.{OkGood, Any_, bind_good, any_good, weaker, ok_if}
+use Rattle.config_terms.proofs.Outcomes.{ok_from}
+use Rattle.config_terms.proofs.GrammarOnly.{TextIs, text_means}
 use Rattle.config_terms.proofs.SetLaws.{KeyIs, keyword_means}
-use Rattle.config_terms.proofs.VectorLaws.{ranges_are_read}
+use Rattle.config_terms.proofs.VectorLaws.{VectorIs, MapIs, vector_means, map_means, ranges_are_read}
 use Rattle.sexp_config.specs.Grammar.{Server, IsNamed, a_value, the_index, AreNames, no_names, more_names, AreEntries}
-use Rattle.sexp_config.specs.Grammar.{no_entries, a_host, a_port, IsServer, by_default, by_map, IsKey, field_key}
-use Rattle.sexp_config.specs.Grammar.{tags_key, AreKeys, no_keys, more_keys, IsExpiry, every_ten, every, keeping}
+use Rattle.sexp_config.specs.Grammar.{no_entries, a_host, a_port, IsServer, by_default, by_map}
+use Rattle.sexp_config.specs.Grammar.{IsKeys, IsExpiry, every_ten, every, keeping}
 use Rattle.sexp_config.specs.Tops.{once, Listens, no_listens, server_of, listen_key, listen_key_at, with_entry}
-use Rattle.sexp_config.specs.Tops.{listens_from, server_at, server_in, keep_field, keep_in, keep_at, with_keep, keys_at}
+use Rattle.sexp_config.specs.Tops.{listens_from, server_at, server_in, keys_at}
 use Rattle.sexp_config.specs.Tops.{keys_of_map, expiry_in, name_at, bound_by, index_by, bound_at, names_from, names_in}
 use Rattle.sexp_config.proofs.GrammarRead.{NotBoth, listens, same_server}
+use Rattle.sexp_config.proofs.KeyLaws.{keep_maps_are_read}
 
 -- ---- arguments
 
 ranged_means : (least most : ℕ) (env : Env) (f : FormTree)
     → OkGood (IsRanged least most env (bare_tree f)) (ranged_at least most env f)
-ranged_means least most env f = by (ranged_at least most env f) refl
-  where
-    by : (read : Result ℕ Fault) → ranged_at least most env f ≡ read
-        → OkGood (IsRanged least most env (bare_tree f)) read
-    by (Ok n) is = (ranges_are_read least most env f n).1 is
-    by (Err fault) is = tt
-
--- no name is bound to a vector or a map
-no_vector : (P : FormTrees → Type 0) (name : List ℕ) (held : Option Bound)
-    → SomeGood P (vector_in (bound_argument name held))
-no_vector P name None = tt
-no_vector P name (Some (bound.Text text)) = tt
-no_vector P name (Some (bound.Pattern text)) = tt
-no_vector P name (Some (bound.Number number)) = tt
-no_vector P name (Some (bound.Keyword key)) = tt
-no_vector P name (Some bound.Index) = tt
-
-no_map : (P : FormTrees → Type 0) (name : List ℕ) (held : Option Bound) → SomeGood P (map_in (bound_argument name held))
-no_map P name None = tt
-no_map P name (Some (bound.Text text)) = tt
-no_map P name (Some (bound.Pattern text)) = tt
-no_map P name (Some (bound.Number number)) = tt
-no_map P name (Some (bound.Keyword key)) = tt
-no_map P name (Some bound.Index) = tt
-
-abbrev VectorIs : BareTree → FormTrees → Type 0
-VectorIs form forms = form ≡ vector_of (bare_trees forms)
-
-abbrev MapIs : BareTree → FormTrees → Type 0
-MapIs form forms = form ≡ map_of (bare_trees forms)
-
-vector_means : (env : Env) (f : FormTree) → OkGood (VectorIs (bare_tree f)) (vector_at env f)
-unfolding vector_at argument_of
-vector_means env (Group Square forms start last) = refl
-vector_means env (Group Round forms start last) = tt
-vector_means env (Group Curly forms start last) = tt
-vector_means env (Single (atom.Symbol name) start last) =
-    fitting_good (VectorIs (symbol name)) start (bound_argument name (bound_value name env))
-    (vector_in (bound_argument name (bound_value name env)))
-    (no_vector (VectorIs (symbol name)) name (bound_value name env))
-vector_means env (Single (atom.Text text) start last) = tt
-vector_means env (Single (atom.Pattern text) start last) = tt
-vector_means env (Single (atom.Number number) start last) = tt
-vector_means env (Single (atom.Keyword key) start last) = tt
-
-map_means : (env : Env) (f : FormTree) → OkGood (MapIs (bare_tree f)) (map_at env f)
-unfolding map_at argument_of
-map_means env (Group Curly forms start last) = refl
-map_means env (Group Round forms start last) = tt
-map_means env (Group Square forms start last) = tt
-map_means env (Single (atom.Symbol name) start last) =
-    fitting_good (MapIs (symbol name)) start (bound_argument name (bound_value name env))
-    (map_in (bound_argument name (bound_value name env))) (no_map (MapIs (symbol name)) name (bound_value name env))
-map_means env (Single (atom.Text text) start last) = tt
-map_means env (Single (atom.Pattern text) start last) = tt
-map_means env (Single (atom.Number number) start last) = tt
-map_means env (Single (atom.Keyword key) start last) = tt
+ranged_means least most env f =
+    ok_from (IsRanged least most env (bare_tree f)) (ranged_at least most env f)
+    (λ n is. (ranges_are_read least most env f n).1 is)
 
 -- ---- names
 
@@ -353,159 +296,15 @@ server_means env (also f (also g forms)) =
 
 -- ---- the expiry
 
-named_key : (env : Env) (form : BareTree) (name : List ℕ) (found : Option Field)
-    → IsLiteral env form (bound.Keyword name) → named_field name ≡ found → SomeGood (IsKey env form) (keep_field found)
-named_key env form name None is means = tt
-named_key env form name (Some field) is means = field_key (a_field is means)
-
-keep_in_means : (env : Env) (form : BareTree) (given : Argument) → Meaning env form given
-    → SomeGood (IsKey env form) (keep_in given)
-keep_in_means env form (Keyword name) means =
-    some_if (IsKey env form) (bytes_eq name tags_text) (Some keep.Tags) (keep_field (named_field name))
-    (λ is. tags_key (subst (KeyIs env form) ((bytes_eq-Decides name tags_text).0 is) means))
-    (λ _. named_key env form name (named_field name) means refl)
-keep_in_means env form (Text text) means = tt
-keep_in_means env form (Pattern text) means = tt
-keep_in_means env form (Number number) means = tt
-keep_in_means env form Index means = tt
-keep_in_means env form (Unbound name) means = tt
-keep_in_means env form (Forms bracket forms) means = tt
-
-keep_means : (env : Env) (f : FormTree) → OkGood (IsKey env (bare_tree f)) (keep_at env f)
-unfolding keep_at
-keep_means env f = taken_means (IsKey env (bare_tree f)) keep_in env f (keep_in_means env (bare_tree f))
-
--- one key more
-record NextKey (env : Env) (form : BareTree) (before keys : List KeepKey) : Type 0 where
-  key : KeepKey
-  are : keys ≡ before ++ key ∷ []
-  is : IsKey env form key
-
--- keys that are read onto others
-record Keys (env : Env) (row : BareTrees) (before keys : List KeepKey) : Type 0 where
-  later : List KeepKey
-  is : keys ≡ before ++ later
-  are : AreKeys env row later
-
-keys_mean : (env : Env) (before : List KeepKey) (forms : FormTrees)
-    → OkGood (Keys env (bare_trees forms) before) (each (with_keep env) before forms)
-unfolding each
-keys_mean env before none = record { later = []; is = sym (append-nil before); are = no_keys }
-keys_mean env before (also f forms) =
-    let Q = Keys env (bare_trees (also f forms)) before in
-    let step = with_keep env before f in
-    bind_good (NextKey env (bare_tree f) before) Q step (λ keys. each (with_keep env) keys forms)
-    (bind_good (IsKey env (bare_tree f)) (NextKey env (bare_tree f) before) (keep_at env f)
-    (λ key. Ok (before ++ key ∷ [])) (keep_means env f) (λ key is. record { key = key; are = refl; is = is }))
-    (λ keys next.
-    weaker (Keys env (bare_trees forms) keys) Q (each (with_keep env) keys forms)
-    (λ all known. record {
-      later = next.key ∷ known.later;
-      is =
-          known.is ∙ ap (λ (front : List KeepKey). front ++ known.later) next.are
-          ∙ append_assoc before (next.key ∷ []) known.later;
-      are = more_keys next.is known.are;
-    }) (keys_mean env keys forms))
-
--- a vector of keys
-record IsKeys (env : Env) (form : BareTree) (keys : List KeepKey) : Type 0 where
-  forms : BareTrees
-  is : form ≡ vector_of forms
-  are : AreKeys env forms keys
-
-keys_means : (env : Env) (f : FormTree) → OkGood (IsKeys env (bare_tree f)) (keys_at env f)
-unfolding keys_at
-keys_means env f =
-    bind_good (VectorIs (bare_tree f)) (IsKeys env (bare_tree f)) (vector_at env f) (each (with_keep env) [])
-    (vector_means env f) (λ forms is.
-    weaker (Keys env (bare_trees forms) []) (IsKeys env (bare_tree f)) (each (with_keep env) [] forms)
-    (λ keys known.
-    record { forms = bare_trees forms; is = is; are = subst (AreKeys env (bare_trees forms)) (sym known.is) known.are })
-    (keys_mean env [] forms))
-
--- a map of keep-keys
-record IsEntry (env : Env) (entries : BareTrees) (keys : List KeepKey) : Type 0 where
-  key : BareTree
-  f : BareTree
-  are : entries ≡ listed (key ∷ f ∷ [])
-  is : IsLiteral env key (bound.Keyword (codes "keep-keys"))
-  keys_are : IsKeys env f keys
-
-wanted_key : (env : Env) (key : FormTree)
-    → OkGood (λ _. KeyIs env (bare_tree key) keep_text) (only_key_at keep_text false env key)
-unfolding only_key_at
-wanted_key env key =
-    bind_good (KeyIs env (bare_tree key)) (λ _. KeyIs env (bare_tree key) keep_text) (keyword_at env key)
-    (only_key keep_text false (start_of key)) (keyword_means env key) (λ name is.
-    ok_if (λ _. KeyIs env (bare_tree key) keep_text) (bytes_eq name keep_text) _ _
-    (λ same. subst (KeyIs env (bare_tree key)) ((bytes_eq-Decides name keep_text).0 same) is) (λ _. tt))
-
--- the key does not come again
-never_again : (env : Env) (key : FormTree) → OkGood (λ _. ⊥) (only_key_at keep_text true env key)
-unfolding only_key_at
-never_again env key =
-    bind_good Any_ (λ _. ⊥) (keyword_at env key) (only_key keep_text true (start_of key))
-    (any_good (keyword_at env key)) (λ name _.
-    ok_if (λ _. ⊥) (bytes_eq name keep_text) (Err _) (Err _) (λ _. tt) (λ _. tt))
-
-abbrev Ended : FormTrees → List KeepKey → List KeepKey → Type 0
-Ended forms keys all = (forms ≡ none) × (all ≡ keys)
-
-entry_ends : (place : ℕ) (env : Env) (keys : List KeepKey) (forms : FormTrees)
-    → OkGood (Ended forms keys) (one_entry keep_text keys_at place env (Some keys) forms)
-unfolding one_entry
-entry_ends place env keys none = (refl, refl)
-entry_ends place env keys (also key none) =
-    bind_good (λ _. ⊥) (Ended (also key none) keys) (only_key_at keep_text true env key) _ (never_again env key)
-    (λ _ never. absurd never)
-entry_ends place env keys (also key (also f forms)) =
-    bind_good (λ _. ⊥) (Ended (also key (also f forms)) keys) (only_key_at keep_text true env key) _
-    (never_again env key) (λ _ never. absurd never)
-
-entry_means : (place : ℕ) (env : Env) (forms : FormTrees)
-    → OkGood (IsEntry env (bare_trees forms)) (one_entry keep_text keys_at place env None forms)
-unfolding one_entry
-entry_means place env none = tt
-entry_means place env (also key none) =
-    bind_good Any_ (IsEntry env (bare_trees (also key none))) (only_key_at keep_text false env key) _
-    (any_good (only_key_at keep_text false env key)) (λ known _. tt)
-entry_means place env (also key (also f forms)) =
-    let Q = IsEntry env (bare_trees (also key (also f forms))) in
-    bind_good (λ _. KeyIs env (bare_tree key) keep_text) Q (only_key_at keep_text false env key) _ (wanted_key env key)
-    (λ _ is.
-    bind_good (IsKeys env (bare_tree f)) Q (keys_at env f) _ (keys_means env f) (λ keys are.
-    weaker (Ended forms keys) Q (one_entry keep_text keys_at place env (Some keys) forms)
-    (λ all ended. record {
-      key = bare_tree key;
-      f = bare_tree f;
-      are = ap (λ (rest : FormTrees). bare_trees (also key (also f rest))) ended.0;
-      is = is;
-      keys_are = subst (IsKeys env (bare_tree f)) (sym ended.1) are;
-    }) (entry_ends place env keys forms)))
-
--- the arguments of two forms
-two_given : (env : Env) (n g : BareTree) (secs : ℕ) (keys : List KeepKey) (entries : BareTrees)
-    → IsRanged 1 MAX_SECS env n secs → g ≡ map_of entries → IsEntry env entries keys
-    → IsExpiry env (listed (n ∷ g ∷ [])) (record { interval = secs; keep = keys })
-two_given env n g secs keys entries secs_are g_is known =
-    let given : IsExpiry env (listed (n ∷ map_of (listed (known.key ∷ vector_of known.keys_are.forms ∷ [])) ∷ []))
-    (record { interval = secs; keep = keys }) =
-    keeping secs_are known.is known.keys_are.are in
-    let same : g ≡ map_of (listed (known.key ∷ vector_of known.keys_are.forms ∷ [])) =
-    g_is ∙ ap map_of (known.are ∙ ap (λ (f : BareTree). listed (known.key ∷ f ∷ [])) known.keys_are.is) in
-    subst (λ (t : BareTree). IsExpiry env (listed (n ∷ t ∷ [])) (record { interval = secs; keep = keys })) (sym same)
-    given
-
 abbrev KeysOf : Env → BareTree → List KeepKey → Type 0
-KeysOf env form keys = (entries : BareTrees) × (form ≡ map_of entries) × IsEntry env entries keys
+KeysOf env form keys = (entries : BareTrees) × (form ≡ map_of entries) × IsOnly keep_text IsKeys env entries keys
 
 keys_of_means : (env : Env) (f : FormTree) → OkGood (KeysOf env (bare_tree f)) (keys_of_map env f)
 keys_of_means env f =
     bind_good (MapIs (bare_tree f)) (KeysOf env (bare_tree f)) (map_at env f)
     (one_entry keep_text keys_at (start_of f) env None) (map_means env f) (λ entries is.
-    weaker (IsEntry env (bare_trees entries)) (KeysOf env (bare_tree f))
-    (one_entry keep_text keys_at (start_of f) env None entries) (λ keys known. (bare_trees entries, is, known))
-    (entry_means (start_of f) env entries))
+    ok_from (KeysOf env (bare_tree f)) (one_entry keep_text keys_at (start_of f) env None entries)
+    (λ keys read. (bare_trees entries, is, (keep_maps_are_read env (start_of f) entries keys).1 read)))
 
 pub expiry_means : (env : Env) (forms : FormTrees) → OkGood (IsExpiry env (bare_trees forms)) (expiry_in env forms)
 unfolding expiry_in at_most
@@ -518,7 +317,10 @@ expiry_means env (also f (also g none)) =
     bind_good (IsRanged 1 MAX_SECS env (bare_tree f)) Q (ranged_at 1 MAX_SECS env f) _ (ranged_means 1 MAX_SECS env f)
     (λ secs is.
     bind_good (KeysOf env (bare_tree g)) Q (keys_of_map env g) _ (keys_of_means env g)
-    (λ keys known. two_given env (bare_tree f) (bare_tree g) secs keys known.0 is known.1 known.2))
+    (λ keys known.
+    subst
+    (λ (t : BareTree). IsExpiry env (listed (bare_tree f ∷ t ∷ [])) (record { interval = secs; keep = keys }))
+    (sym known.1) (keeping is known.2)))
 expiry_means env (also f (also g (also h forms))) =
     let Q = IsExpiry env (bare_trees (also f (also g (also h forms)))) in
     bind_good Any_ Q (ranged_at 1 MAX_SECS env f) _ (any_good (ranged_at 1 MAX_SECS env f))

@@ -1,39 +1,34 @@
 -- What the grammar says of names, the server and the expiry is read.
-use Rattle.std.proofs.Common.{◌≡◌, ℕ, Bool, true, false, codes, List, [], ◌∷◌, ◌++◌, append_assoc, Option, Some, None}
+use Rattle.std.proofs.Common.{◌≡◌, ℕ, codes, List, [], ◌∷◌, ◌++◌, Option, Some, None}
 use Rattle.std.proofs.Common.{Ok, refl, ap, sym, ◌∙◌, subst}
-use Rattle.std.proofs.lemmas.List.{append-nil}
-use Rattle.std.proofs.lemmas.Slice.Eq.{bytes_eq-Decides}
 use Rattle.std.specs.Option.{option_or}
-use Rattle.std.specs.Str.{bytes_eq}
-use Rattle.ev_types.specs.declared.field.Field.{Field}
 use Rattle.ev_types.specs.declared.settings.Expiry.{Expiry}
 use Rattle.ev_types.specs.declared.settings.KeepKey.{KeepKey}
-use Rattle.ev_types.specs.declared.settings.KeepKey.TheVariants as keep
-use Rattle.ev_types.specs.Names.{named_field, protocol_field}
 use Rattle.sexp_read.specs.declared.piece.Atom.{Atom}
 use Rattle.sexp_read.specs.declared.piece.Atom.TheVariants as atom
 use Rattle.sexp_read.specs.declared.piece.Bracket.TheVariants.{Round, Square, Curly}
 use Rattle.sexp_read.specs.Tree.{FormTree, FormTrees, Single, Group, none, also}
-use Rattle.sexp_read.specs.Written.{BareTree, BareTrees, no_trees, and_trees, bare_tree, bare_trees, listed}
+use Rattle.sexp_read.specs.Written.{BareTree, BareTrees, no_trees, and_trees, bare_tree, bare_trees}
 use Rattle.stream_plan.specs.declared.kinds.TheConstants.{MAX_SECS}
 use Rattle.config_terms.specs.declared.binding.Bound.{Bound}
 use Rattle.config_terms.specs.declared.binding.Bound.TheVariants as bound
-use Rattle.config_terms.specs.Steps.{argument, at_most, each}
-use Rattle.config_terms.specs.Words.{tags_text, keep_text}
-use Rattle.config_terms.specs.Arguments.{Env, Keyword, argument_of, text_at, keyword_at, ranged_at, vector_at, map_at}
-use Rattle.config_terms.specs.Arguments.{only_key_at, one_entry}
+use Rattle.config_terms.specs.Steps.{argument, at_most}
+use Rattle.config_terms.specs.Words.{keep_text}
+use Rattle.config_terms.specs.Arguments.{Env, argument_of, text_at, keyword_at, ranged_at, vector_at, map_at}
+use Rattle.config_terms.specs.Arguments.{one_entry}
 use Rattle.config_terms.specs.Grammar.{symbol, IsLiteral, a_text, a_pattern, a_number, a_keyword, a_name}
-use Rattle.config_terms.specs.Terms.{vector_of, map_of, IsRanged, a_field}
+use Rattle.config_terms.specs.Terms.{vector_of, map_of, IsRanged, IsOnly}
 use Rattle.config_terms.proofs.BareForms.{single_of, group_of, also_of, none_of, call_of}
 use Rattle.config_terms.proofs.GrammarRead.{given, literal_read, text_read}
 use Rattle.config_terms.proofs.SetLaws.{keyword_read}
 use Rattle.config_terms.proofs.VectorLaws.{ranges_are_read}
 use Rattle.sexp_config.specs.Grammar.{Server, IsNamed, a_value, the_index, AreNames, no_names, more_names, listening}
-use Rattle.sexp_config.specs.Grammar.{AreEntries, no_entries, a_host, a_port, IsServer, by_default, by_map, IsKey}
-use Rattle.sexp_config.specs.Grammar.{field_key, tags_key, AreKeys, no_keys, more_keys, host_and_service, IsExpiry}
+use Rattle.sexp_config.specs.Grammar.{AreEntries, no_entries, a_host, a_port, IsServer, by_default, by_map}
+use Rattle.sexp_config.specs.Grammar.{IsKeys, host_and_service, IsExpiry}
 use Rattle.sexp_config.specs.Grammar.{every_ten, every, keeping}
-use Rattle.sexp_config.specs.Tops.{Listens, server_of, listens_from, listen_key_at, with_entry, server_in, keep_at}
-use Rattle.sexp_config.specs.Tops.{with_keep, keys_at, expiry_in, name_at, bound_by, bound_at, names_from, names_in}
+use Rattle.sexp_config.specs.Tops.{Listens, server_of, listens_from, listen_key_at, with_entry, server_in}
+use Rattle.sexp_config.specs.Tops.{keys_at, expiry_in, name_at, bound_by, bound_at, names_from, names_in}
+use Rattle.sexp_config.proofs.KeyLaws.{keep_maps_are_read}
 
 -- ---- arguments
 
@@ -266,74 +261,6 @@ server_read env _ _ (by_map {entries = row} {host = host} {port = port} are) for
 
 -- ---- the expiry
 
-no_tags_at : (name : List ℕ) (field : Field) (same : Bool) → bytes_eq name tags_text ≡ same
-    → named_field name ≡ Some field → same ≡ false
-unfolding named_field protocol_field
-no_tags_at name field false is means = refl
-no_tags_at name field true is means =
-    let tags : named_field tags_text ≡ Some field =
-    ap named_field (sym ((bytes_eq-Decides name tags_text).0 is)) ∙ means in
-    cc
-
-pub no_tags : (name : List ℕ) (field : Field) → named_field name ≡ Some field → bytes_eq name tags_text ≡ false
-no_tags name field means = no_tags_at name field (bytes_eq name tags_text) refl means
-
-keep_field_read : (env : Env) (f : FormTree) (name : List ℕ) (field : Field) → argument_of env f ≡ Keyword name
-    → named_field name ≡ Some field → keep_at env f ≡ Ok (keep.Field field)
-unfolding keep_at
-keep_field_read env f name field is means = rw (is, no_tags name field means, means) refl
-
-keep_tags_read : (env : Env) (f : FormTree) → argument_of env f ≡ Keyword (codes "tags") → keep_at env f ≡ Ok keep.Tags
-unfolding keep_at
-keep_tags_read env f is = rw is refl
-
-key_read : (env : Env) (form : BareTree) (key : KeepKey) → IsKey env form key → (f : FormTree) → bare_tree f ≡ form
-    → keep_at env f ≡ Ok key
-key_read env form _ (field_key {field = field} (a_field {name = name} literal means)) f h =
-    keep_field_read env f name field (literal_read env form (bound.Keyword name) literal f h) means
-key_read env form _ (tags_key is) f h =
-    keep_tags_read env f (literal_read env form (bound.Keyword (codes "tags")) is f h)
-
-each_none : (env : Env) (before : List KeepKey) → each (with_keep env) before none ≡ Ok before
-unfolding each
-each_none env before = refl
-
-each_more : (env : Env) (before : List KeepKey) (f : FormTree) (forms : FormTrees) (key : KeepKey)
-    → keep_at env f ≡ Ok key
-    → each (with_keep env) before (also f forms) ≡ each (with_keep env) (before ++ key ∷ []) forms
-unfolding each
-each_more env before f forms key is = rw is refl
-
-keys_read : (env : Env) (row : BareTrees) (keys : List KeepKey) → AreKeys env row keys
-    → (before : List KeepKey) (forms : FormTrees) → bare_trees forms ≡ row
-    → each (with_keep env) before forms ≡ Ok (before ++ keys)
-keys_read env _ _ no_keys before forms h =
-    ap (each (with_keep env) before) (none_of forms h) ∙ each_none env before
-    ∙ ap (λ (keys : List KeepKey). Ok keys) (sym (append-nil before))
-keys_read env _ _ (more_keys {form = form} {forms = row} {key = key} {keys = keys} is others) before forms h =
-    let one = also_of forms form row h in
-    ap (each (with_keep env) before) one.are
-    ∙ each_more env before one.first one.rest key (key_read env form key is one.first one.first_is)
-    ∙ keys_read env row keys others (before ++ key ∷ []) one.rest one.rest_are
-    ∙ ap (λ (all : List KeepKey). Ok all) (append_assoc before (key ∷ []) keys)
-
-keys_group : (env : Env) (forms : FormTrees) (start last : ℕ)
-    → keys_at env (Group Square forms start last) ≡ each (with_keep env) [] forms
-unfolding keys_at
-keys_group env forms start last = rw (vector_group env forms start last) refl
-
-keys_given : (env : Env) (row : BareTrees) (keys : List KeepKey) → AreKeys env row keys → (f : FormTree)
-    → bare_tree f ≡ vector_of row → keys_at env f ≡ Ok keys
-keys_given env row keys are f h =
-    let group = group_of f Square row h in
-    ap (keys_at env) group.is ∙ keys_group env group.forms group.start group.last
-    ∙ keys_read env row keys are [] group.forms group.forms_are
-
-keep_entry : (env : Env) (place : ℕ) (a b : FormTree) (keys : List KeepKey) → keyword_at env a ≡ Ok keep_text
-    → keys_at env b ≡ Ok keys → one_entry keep_text keys_at place env None (also a (also b none)) ≡ Ok keys
-unfolding one_entry only_key_at
-keep_entry env place a b keys first second = rw (first, second) refl
-
 expiry_none : (env : Env) → expiry_in env none ≡ Ok (record { interval = 10; keep = host_and_service })
 unfolding expiry_in at_most
 expiry_none env = refl
@@ -356,18 +283,13 @@ expiry_read env _ _ (every {n = n} {secs = secs} is) forms h =
     let one = also_of forms n no_trees h in
     ap (expiry_in env) (one.are ∙ ap (also one.first) (none_of one.rest one.rest_are))
     ∙ expiry_one env one.first secs (ranged_given 1 MAX_SECS env n secs is one.first one.first_is)
-expiry_read env _ _ (keeping {n = n} {key = key} {forms = row} {secs = secs} {keys = keys} is key_is are) forms h =
-    let entry = listed (key ∷ vector_of row ∷ []) in
-    let two = pair_of forms n (map_of entry) no_trees h in
-    let group = group_of two.b Curly entry two.b_is in
-    let inner = pair_of group.forms key (vector_of row) no_trees group.forms_are in
+expiry_read env _ _ (keeping {n = n} {entries = entries} {secs = secs} {keys = keys} is are) forms h =
+    let two = pair_of forms n (map_of entries) no_trees h in
+    let group = group_of two.b Curly entries two.b_is in
     ap (expiry_in env) (two.are
     ∙ ap (λ (rest : FormTrees). also two.a (also two.b rest)) (none_of two.rest two.rest_are)
     ∙ ap (λ (f : FormTree). also two.a (also f none)) group.is)
     ∙ expiry_two env two.a group.forms group.start group.last secs keys
     (ranged_given 1 MAX_SECS env n secs is two.a two.a_is)
-    (ap (one_entry keep_text keys_at group.start env None)
-    (inner.are ∙ ap (λ (rest : FormTrees). also inner.a (also inner.b rest)) (none_of inner.rest inner.rest_are))
-    ∙ keep_entry env group.start inner.a inner.b keys
-    (keyword_read env key (codes "keep-keys") key_is inner.a inner.a_is)
-    (keys_given env row keys are inner.b inner.b_is))
+    ((keep_maps_are_read env group.start group.forms keys).0
+    (subst (λ (ts : BareTrees). IsOnly keep_text IsKeys env ts keys) (sym group.forms_are) are))

@@ -1,10 +1,8 @@
 -- Forms at the top are read exactly as the grammar says.
 use Rattle.std.proofs.Common.{◌≡◌, ℕ, false, codes, List, [], ◌∷◌, ◌++◌, drop, append_assoc, Option, Some, None}
-use Rattle.std.proofs.Common.{if◌then◌else◌, Result, Ok, Err, refl, ap, sym, ◌∙◌, subst}
+use Rattle.std.proofs.Common.{Result, Ok, Err, refl, ap, sym, ◌∙◌, subst}
 use Rattle.std.specs.Prelude.{option_to_list}
 use Rattle.std.proofs.lemmas.List.{append-nil}
-use Rattle.std.proofs.lemmas.Slice.Eq.{bytes_eq-Decides}
-use Rattle.std.specs.Str.{bytes_eq}
 use Rattle.ev_types.specs.declared.settings.Expiry.{Expiry}
 use Rattle.sexp_read.specs.declared.piece.Atom.TheVariants as atom
 use Rattle.sexp_read.specs.declared.piece.Bracket.TheVariants.{Round, Square, Curly}
@@ -20,7 +18,8 @@ use Rattle.config_terms.specs.Arguments.{Env}
 use Rattle.config_terms.specs.Grammar.{worded}
 use Rattle.config_terms.specs.Terms.{vector_of}
 use Rattle.config_terms.proofs.BareForms.{also_of, none_of, call_of}
-use Rattle.config_terms.proofs.Outcomes.{OkGood, SomeGood, bind_good, weaker, some_if}
+use Rattle.config_terms.proofs.Outcomes.{OkGood, SomeGood, bind_good, weaker}
+use Rattle.config_terms.proofs.NameLaws.{top_named, top_found}
 use Rattle.config_streams.specs.Streams.{Below, all_read, parts_in}
 use Rattle.config_streams.specs.Grammar.{AreStreams, with_streams, AreThose}
 use Rattle.config_streams.proofs.GrammarLaws.{streams_are_read, only_streams_are_read}
@@ -78,11 +77,6 @@ middle_of (a ∷ b ∷ front) rest (Some c) h = cc
 
 -- ---- words
 
-word_is : (w : TopWord) → top_word (top_text w) ≡ Some w
-unfolding top_word
-word_is top.TcpServer = refl
-word_is w = refl
-
 group_top : (env : Env) (name : List ℕ) (begin end start last : ℕ) (forms : FormTrees) (draft : Draft)
     → top_at (Group Round (also (Single (atom.Symbol name) begin end) forms) start last) env draft
     ≡ top_by (top_word name) env start forms (tops_in forms) draft
@@ -107,7 +101,7 @@ word_top env f w row draft h =
           ap (λ (one : FormTree). top_at one env draft) call.is
           ∙ group_top env (top_text w) call.begin call.end call.start call.last call.forms draft
           ∙ ap (λ (known : Option TopWord). top_by known env call.start call.forms (tops_in call.forms) draft)
-          (word_is w);
+          (top_found w);
     }
 
 server_step : (env : Env) (start : ℕ) (forms : FormTrees) (server : Server) (draft : Draft) → draft.server ≡ None
@@ -438,18 +432,6 @@ let_top env start forms draft rest =
 abbrev Spells : List ℕ → TopWord → Type 0
 Spells name one = name ≡ top_text one
 
-spells_if : (name : List ℕ) (one : TopWord) (other : Option TopWord) → SomeGood (Spells name) other
-    → SomeGood (Spells name) (if bytes_eq name (top_text one) then Some one else other)
-spells_if name one other rest =
-    some_if (Spells name) (bytes_eq name (top_text one)) (Some one) other
-    (λ is. (bytes_eq-Decides name (top_text one)).0 is) (λ _. rest)
-
-word_spells : (name : List ℕ) → SomeGood (Spells name) (top_word name)
-unfolding top_word
-word_spells name =
-    spells_if name top.TcpServer _
-    (spells_if name top.PeriodicallyExpire _ (spells_if name top.Streams _ (spells_if name top.Let _ tt)))
-
 streams_top : (env : Env) (forms : FormTrees) (draft : Draft)
     → OkGood (TopMeans env (worded (codes "streams") (bare_trees forms)) draft) (streams_onto env forms draft)
 streams_top env forms draft =
@@ -498,7 +480,7 @@ mutual
 
   top_means : (f : FormTree) → StepMeans (bare_tree f) (top_at f)
   top_means (Group Round (also (Single (atom.Symbol name) begin end) forms) start last) env draft =
-      call_means name (top_word name) (word_spells name) env start forms (tops_mean forms).1 draft
+      call_means name (top_word name) (top_named name) env start forms (tops_mean forms).1 draft
   top_means (Single (atom.Symbol name) start last) env draft = tt
   top_means (Single (atom.Text text) start last) env draft = tt
   top_means (Single (atom.Pattern text) start last) env draft = tt

@@ -8,6 +8,7 @@ pub mod PlansBuilt
 pub mod TopLaws
 pub mod ReadLaws
 pub mod PlanPasses
+pub mod KeyLaws
 pub mod GrammarRead
 pub mod GrammarOnly
 pub mod GrammarTops

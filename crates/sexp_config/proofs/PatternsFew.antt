@@ -20,9 +20,9 @@ use Rattle.config_terms.specs.Grammar.{no_parts, more_parts}
 use Rattle.config_terms.specs.Grammar as term
 use Rattle.config_terms.specs.declared.word.StreamWord.{StreamWord}
 use Rattle.config_terms.specs.declared.word.StreamWord.TheVariants as word
-use Rattle.config_streams.specs.Shapes.{Shape, ValueOf, IsA}
-use Rattle.config_streams.specs.Shapes as shape
-use Rattle.config_streams.specs.Table.{Row, gives, takes, next_is, row_of, tag_rules, all_tagged, Matches, made, argued}
+use Rattle.config_streams.specs.Sorts.{Sort, ValueOf, IsA}
+use Rattle.config_streams.specs.Sorts as sort
+use Rattle.config_streams.specs.Table.{Row, gives, takes, next_is, row_of, tag_rules, all_tagged, Matches, made, taken}
 use Rattle.config_streams.specs.Table.{there, absent}
 use Rattle.config_streams.specs.Streams.{is_by}
 use Rattle.config_streams.specs.Grammar.{and_then, else_row, IsStream, index_word, index_name, ending, passing}
@@ -114,31 +114,31 @@ all_tags_none (tag ∷ second ∷ tags) = tags_none tags
 
 -- ---- streams
 
--- how many expressions a value of a shape has
-abbrev cost : (shape : Shape) → ValueOf shape → ℕ
-cost shape.Rule rule = length (searches rule)
+-- how many expressions a value of a sort has
+abbrev cost : (sort : Sort) → ValueOf sort → ℕ
+cost sort.Rule rule = length (searches rule)
 cost _ value = 0
 
-cost_few : (shape : Shape) (env : Env) (x : BareTree) (value : ValueOf shape) → IsA shape env x value
-    → cost shape value ≤ tree_brackets x
-cost_few shape.Rule env x value is = rule_few env x value is
-cost_few shape env x value is = omega arith
+cost_few : (sort : Sort) (env : Env) (x : BareTree) (value : ValueOf sort) → IsA sort env x value
+    → cost sort value ≤ tree_brackets x
+cost_few sort.Rule env x value is = rule_few env x value is
+cost_few sort env x value is = omega arith
 
 -- a kind has no more expressions than its arguments
 abbrev Costs : Row → ℕ → Type 0
 Costs (gives one) n = length (kind_patterns one) ≤ n
-Costs (takes shape row) n = (value : ValueOf shape) → Costs (row value) (n + cost shape value)
-Costs (next_is look row other) n = Costs row n × Costs other n
+Costs (takes sort row) n = (value : ValueOf sort) → Costs (row value) (n + cost sort value)
+Costs (next_is ahead row other) n = Costs row n × Costs other n
 
 row_few : (env : Env) (row : Row) (forms : BareTrees) (one : KindTree) (rest : BareTrees)
     → Matches env row forms one rest → (n : ℕ) → Costs row n
     → length (kind_patterns one) + brackets rest ≤ n + brackets forms
 row_few env _ _ one rest made n costs = omega (arith, costs)
-row_few env _ _ one rest (argued {shape = shape} {row = row} {x = x} {forms = forms} value is matched) n costs =
+row_few env _ _ one rest (taken {sort = sort} {row = row} {x = x} {forms = forms} value is matched) n costs =
     omega (
       arith,
-      cost_few shape env x value is,
-      row_few env (row value) forms one rest matched (n + cost shape value) (costs value),
+      cost_few sort env x value is,
+      row_few env (row value) forms one rest matched (n + cost sort value) (costs value),
     )
 row_few env _ forms one rest (there {row = row} is matched) n costs = row_few env row forms one rest matched n costs.0
 row_few env _ forms one rest (absent {other = other} is matched) n costs =
@@ -148,7 +148,6 @@ rows_few : (in_fork : Bool) (from : StreamWord) → Costs (row_of in_fork from) 
 unfolding row_of
 rows_few in_fork word.Index = omega arith
 rows_few in_fork word.Sdo = omega arith
-rows_few in_fork word.Else = omega arith
 rows_few in_fork word.Where = λ rule. omega arith
 rows_few in_fork word.With = (λ sets. omega arith, λ field set. omega arith)
 rows_few in_fork word.Default = (λ sets. omega arith, λ field set. omega arith)
@@ -189,10 +188,10 @@ mutual
       → length (stream_patterns one) ≤ tree_brackets form
   stream_few in_fork env _ _ (index_word is) = omega arith
   stream_few in_fork env _ _ (index_name is) = omega arith
-  stream_few in_fork env _ _ (ending {row = row} {one = one} from not_else matched ends) =
+  stream_few in_fork env _ _ (ending {row = row} {one = one} from matched ends) =
       omega (arith, length-append (kind_patterns one) [], kind_few in_fork env from row one no_trees matched)
   stream_few in_fork env _ _
-      (passing {row = row} {forms = forms} {one = one} {children = children} from not_else matched passes are) =
+      (passing {row = row} {forms = forms} {one = one} {children = children} from matched passes are) =
       omega (
         arith,
         length-append (kind_patterns one) (plan_patterns children ++ []),

@@ -12,13 +12,13 @@ use Rattle.stream_plan.specs.Kinds.{may_have_children, may_have_otherwise, is_by
 use Rattle.stream_plan.specs.Kinds.{is_in_range}
 use Rattle.stream_plan.specs.Tree.{KindTree, StreamTree, stream, StreamTrees, none, also}
 use Rattle.config_terms.specs.Arguments.{Env}
-use Rattle.config_terms.specs.Terms.{a_ranged, a_set, AreSets, no_sets, more_sets, an_idle}
+use Rattle.config_terms.specs.Terms.{a_ranged, a_set, AreSets, no_sets, more_sets, only}
 use Rattle.config_terms.specs.declared.word.StreamWord.{StreamWord}
 use Rattle.config_terms.specs.declared.word.StreamWord.TheVariants as word
 use Rattle.ev_types.specs.declared.field.Field.{Field}
 use Rattle.stream_plan.specs.Tree as plan
-use Rattle.config_streams.specs.Shapes.{Shape, ValueOf, IsA, a_map}
-use Rattle.config_streams.specs.Shapes as shape
+use Rattle.config_streams.specs.Sorts.{Sort, ValueOf, IsA, a_map}
+use Rattle.config_streams.specs.Sorts as sort
 use Rattle.config_streams.specs.Table.{row_of, most_idle, Matches}
 use Rattle.config_streams.specs.Streams.{is_by as is_by_word}
 use Rattle.config_streams.specs.Grammar.{and_then, else_row, IsStream, index_word, index_name, ending, passing}
@@ -29,19 +29,19 @@ use Rattle.sexp_config.specs.Grammar.{more_tops}
 
 -- ---- ranges
 
--- what holds of a value of a shape
-abbrev Fits : (shape : Shape) → ValueOf shape → Type 0
-Fits shape.Count count = is_count count ≡ true
-Fits shape.Secs secs = is_secs secs ≡ true
-Fits (shape.SetTo field) set = all_fit (set ∷ []) ≡ true
-Fits shape.Sets sets = all_fit sets ≡ true
-Fits (shape.Idle most) secs = (1 ≤ secs) × (secs ≤ most)
+-- what holds of a value of a sort
+abbrev Fits : (sort : Sort) → ValueOf sort → Type 0
+Fits sort.Count count = is_count count ≡ true
+Fits sort.Secs secs = is_secs secs ≡ true
+Fits (sort.SetTo field) set = all_fit (set ∷ []) ≡ true
+Fits sort.Sets sets = all_fit sets ≡ true
+Fits (sort.Idle most) secs = (1 ≤ secs) × (secs ≤ most)
 Fits _ value = Unit {0}
 
-count_fits : (env : Env) (form : BareTree) (count : ℕ) → IsA shape.Count env form count → is_count count ≡ true
+count_fits : (env : Env) (form : BareTree) (count : ℕ) → IsA sort.Count env form count → is_count count ≡ true
 count_fits env form count (a_ranged is low high) = rw (le-leb 1 count low, le-leb count MAX_COUNT high) refl
 
-secs_fit : (env : Env) (form : BareTree) (secs : ℕ) → IsA shape.Secs env form secs → is_secs secs ≡ true
+secs_fit : (env : Env) (form : BareTree) (secs : ℕ) → IsA sort.Secs env form secs → is_secs secs ≡ true
 secs_fit env form secs (a_ranged is low high) = rw (le-leb 1 secs low, le-leb secs MAX_SECS high) refl
 
 sets_fit : (env : Env) (forms : BareTrees) (sets : List Set) → AreSets env forms sets → all_fit sets ≡ true
@@ -49,14 +49,14 @@ sets_fit env _ _ no_sets = refl
 sets_fit env _ _ (more_sets {forms = forms} {sets = sets} means (a_set is fitting) others new) =
     rw (fitting, sets_fit env forms sets others) refl
 
-fits : (shape : Shape) (env : Env) (form : BareTree) (value : ValueOf shape) → IsA shape env form value
-    → Fits shape value
-fits shape.Count env form value is = count_fits env form value is
-fits shape.Secs env form value is = secs_fit env form value is
-fits (shape.SetTo field) env form _ (a_set is fitting) = rw fitting refl
-fits shape.Sets env _ sets (a_map {entries = entries} are) = sets_fit env entries sets are
-fits (shape.Idle most) env _ secs (a_map (an_idle key (a_ranged is low high))) = (low, high)
-fits shape env form value is = tt
+fits : (sort : Sort) (env : Env) (form : BareTree) (value : ValueOf sort) → IsA sort env form value
+    → Fits sort value
+fits sort.Count env form value is = count_fits env form value is
+fits sort.Secs env form value is = secs_fit env form value is
+fits (sort.SetTo field) env form _ (a_set is fitting) = rw fitting refl
+fits sort.Sets env _ sets (a_map {entries = entries} are) = sets_fit env entries sets are
+fits (sort.Idle most) env _ secs (a_map (only key (a_ranged is low high))) = (low, high)
+fits sort env form value is = tt
 
 record KindFits (in_fork : Bool) (from : StreamWord) (one : KindTree) : Type 0 where
   ranges : is_in_range one ≡ true
@@ -82,7 +82,6 @@ rows_fit in_fork word.Index = kind_fits refl refl refl
 rows_fit in_fork word.Notice = λ name _. kind_fits refl refl refl
 rows_fit in_fork word.Sdo = kind_fits refl refl refl
 rows_fit in_fork word.Where = λ rule _. kind_fits refl refl refl
-rows_fit in_fork word.Else = kind_fits refl refl refl
 rows_fit in_fork word.With = (λ sets fit. kind_fits fit refl refl, λ field _ set fit. kind_fits fit refl refl)
 rows_fit in_fork word.Default = (λ sets fit. kind_fits fit refl refl, λ field _ set fit. kind_fits fit refl refl)
 rows_fit in_fork word.Tag = λ tags _. kind_fits refl refl refl
@@ -112,14 +111,14 @@ row_fits : (in_fork : Bool) (env : Env) (from : StreamWord) (row : BareTrees) (o
     → Matches env (row_of in_fork from) row one rest → (n : ℕ) → IsDeep n row → KindFits in_fork from one × IsDeep n rest
 row_fits in_fork env from row one rest matched n deep =
     yielded env (IsDeep n) Fits (KindFits in_fork from)
-    (λ shape x forms value is d. (fits shape env x value is, omega (arith, d))) (row_of in_fork from) row one rest matched
+    (λ sort x forms value is d. (fits sort env x value is, omega (arith, d))) (row_of in_fork from) row one rest matched
     deep (rows_fit in_fork from)
 
 pub row_forks : (in_fork : Bool) (env : Env) (from : StreamWord) (row : BareTrees) (one : KindTree) (rest : BareTrees)
     → Matches env (row_of in_fork from) row one rest → is_by_word from ≡ is_by one
 row_forks in_fork env from row one rest matched =
     (yielded env (λ forms. Unit {0}) Fits (KindFits in_fork from)
-    (λ shape x forms value is _. (fits shape env x value is, tt)) (row_of in_fork from) row one rest matched tt
+    (λ sort x forms value is _. (fits sort env x value is, tt)) (row_of in_fork from) row one rest matched tt
     (rows_fit in_fork from)).0.forks
 
 where_divides : (in_fork : Bool) → Yields Fits (λ one. may_have_otherwise one ≡ true) (row_of in_fork word.Where)
@@ -130,7 +129,7 @@ row_divides : (in_fork : Bool) (env : Env) (row : BareTrees) (one : KindTree) (r
     → Matches env (row_of in_fork word.Where) row one rest → may_have_otherwise one ≡ true
 row_divides in_fork env row one rest matched =
     (yielded env (λ forms. Unit {0}) Fits (λ one. may_have_otherwise one ≡ true)
-    (λ shape x forms value is _. (fits shape env x value is, tt)) (row_of in_fork word.Where) row one rest matched tt
+    (λ sort x forms value is _. (fits sort env x value is, tt)) (row_of in_fork word.Where) row one rest matched tt
     (where_divides in_fork)).0
 
 -- ---- a stream that is n streams down, and in a fork or not, and those below it
@@ -179,7 +178,7 @@ mutual
       → (n : ℕ) → n + bare_tree_depth form ≤ 64 → FitsAt n in_fork one
   stream_fits in_fork env _ _ (index_word is) n h = (omega (arith, h), refl, refl, refl, tt, tt)
   stream_fits in_fork env _ _ (index_name is) n h = (omega (arith, h), refl, refl, refl, tt, tt)
-  stream_fits in_fork env _ _ (ending {row = row} {one = one} from not_else matched ends) n h =
+  stream_fits in_fork env _ _ (ending {row = row} {one = one} from matched ends) n h =
       let known = row_fits in_fork env from row one no_trees matched (suc n) (omega (arith, h)) in (
         omega (arith, h),
         none_wrong (may_have_children one) (may_have_otherwise one),
@@ -189,7 +188,7 @@ mutual
         tt,
       )
   stream_fits in_fork env _ _
-      (passing {row = row} {forms = forms} {one = one} {children = children} from not_else matched passes are) n h =
+      (passing {row = row} {forms = forms} {one = one} {children = children} from matched passes are) n h =
       let known = row_fits in_fork env from row one forms matched (suc n) (omega (arith, h)) in (
         omega (arith, h),
         right_children (may_have_children one) (may_have_otherwise one) (has_streams children) passes,

@@ -28,19 +28,8 @@ top_looks : (env : Env) (draft : Draft) (form : FormTree)
     → top_at form env draft ≡ top_by_look_at env draft (start_of form) (look_of form)
 unfolding top_at look_of
 top_looks env d (Single (atom.Symbol name) start last) = refl
-top_looks env d (Single (atom.Text name) start last) = refl
-top_looks env d (Single (atom.Pattern name) start last) = refl
-top_looks env d (Single (atom.Number name) start last) = refl
-top_looks env d (Single (atom.Keyword name) start last) = refl
 top_looks env d (Group Round (also (Single (atom.Symbol name) begin end) forms) start last) = refl
-top_looks env d (Group Round (also (Single (atom.Keyword name) begin end) forms) start last) = refl
-top_looks env d (Group Round (also (Single (atom.Text name) begin end) forms) start last) = refl
-top_looks env d (Group Round (also (Single (atom.Pattern name) begin end) forms) start last) = refl
-top_looks env d (Group Round (also (Single (atom.Number name) begin end) forms) start last) = refl
-top_looks env d (Group Round (also (Group bracket more begin end) forms) start last) = refl
-top_looks env d (Group Round none start last) = refl
-top_looks env d (Group Square forms start last) = refl
-top_looks env d (Group Curly forms start last) = refl
+top_looks env d form = refl
 
 pub top_by_look : (env : Env) (draft : Draft) (form : FormTree) (look : Look) → look ≡ look_of form
     → top_at form env draft ≡ top_by_look_at env draft (start_of form) look

@@ -23,7 +23,7 @@ use Rattle.config_terms.specs.declared.word.StreamWord.TheVariants as word
 use Rattle.config_terms.specs.declared.word.TopWord.TheVariants as top
 use Rattle.ev_types.specs.Names.{field_name}
 use Rattle.config_terms.specs.Words.{top_text, stream_text, rule_text, true_text, false_text, nil_text, tags_text}
-use Rattle.config_terms.specs.Words.{fold_text, init_text, idle_text, keep_text, host_text, port_text}
+use Rattle.config_terms.specs.Words.{else_text, fold_text, init_text, idle_text, keep_text, host_text, port_text}
 
 -- ---- forms
 
@@ -142,7 +142,7 @@ kind_forms (plan.Smap fold) = symbol_form (stream_text word.Smap) ∷ symbol_for
 -- the streams that get the rest, where there are some
 abbrev pub else_forms : List BareTree → List BareTree
 else_forms [] = []
-else_forms (form ∷ forms) = worded_form (stream_text word.Else) (form ∷ forms) ∷ []
+else_forms (form ∷ forms) = worded_form else_text (form ∷ forms) ∷ []
 
 -- the index is its word, any other stream a list
 abbrev pub kind_form : KindTree → List BareTree → BareTree

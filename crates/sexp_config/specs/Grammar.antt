@@ -19,7 +19,7 @@ use Rattle.config_terms.specs.declared.binding.Bound.{Bound}
 use Rattle.config_terms.specs.declared.binding.Bound.TheVariants as bound
 use Rattle.config_terms.specs.Arguments.{Env}
 use Rattle.config_terms.specs.Grammar.{symbol, worded, IsLiteral}
-use Rattle.config_terms.specs.Terms.{vector_of, map_of, IsRanged, IsField}
+use Rattle.config_terms.specs.Terms.{vector_of, map_of, IsRanged, IsField, AreEach, IsOnly}
 use Rattle.config_streams.specs.Grammar.{AreStreams, with_streams}
 use Rattle.sexp_config.specs.declared.config.Config.{Config}
 
@@ -74,11 +74,13 @@ pub data IsKey : Env → BareTree → KeepKey → Type 0 where
   tags_key : {env : Env} {form : BareTree} → IsLiteral env form (bound.Keyword (codes "tags"))
       → IsKey env form keep.Tags
 
-pub data AreKeys : Env → BareTrees → List KeepKey → Type 0 where
-  no_keys : {env : Env} → AreKeys env no_trees []
-  more_keys : {env : Env} {form : BareTree} {forms : BareTrees} {key : KeepKey} {keys : List KeepKey}
-      → IsKey env form key → AreKeys env forms keys
-      → AreKeys env (and_trees form forms) (key ∷ keys)
+abbrev pub AreKeys : Env → BareTrees → List KeepKey → Type 0
+AreKeys env = AreEach (IsKey env)
+
+-- a vector of keys
+pub data IsKeys : Env → BareTree → List KeepKey → Type 0 where
+  key_vector : {env : Env} {forms : BareTrees} {keys : List KeepKey} → AreKeys env forms keys
+      → IsKeys env (vector_of forms) keys
 
 abbrev pub host_and_service : List KeepKey
 host_and_service = keep.Field Host ∷ keep.Field Service ∷ []
@@ -88,10 +90,9 @@ pub data IsExpiry : Env → BareTrees → Expiry → Type 0 where
   every_ten : {env : Env} → IsExpiry env no_trees (record { interval = 10; keep = host_and_service })
   every : {env : Env} {n : BareTree} {secs : ℕ} → IsRanged 1 MAX_SECS env n secs
       → IsExpiry env (listed (n ∷ [])) (record { interval = secs; keep = host_and_service })
-  keeping : {env : Env} {n key : BareTree} {forms : BareTrees} {secs : ℕ} {keys : List KeepKey}
-      → IsRanged 1 MAX_SECS env n secs → IsLiteral env key (bound.Keyword (codes "keep-keys")) → AreKeys env forms keys
-      → IsExpiry env (listed (n ∷ map_of (listed (key ∷ vector_of forms ∷ [])) ∷ []))
-      (record { interval = secs; keep = keys })
+  keeping : {env : Env} {n : BareTree} {entries : BareTrees} {secs : ℕ} {keys : List KeepKey}
+      → IsRanged 1 MAX_SECS env n secs → IsOnly (codes "keep-keys") IsKeys env entries keys
+      → IsExpiry env (listed (n ∷ map_of entries ∷ [])) (record { interval = secs; keep = keys })
 
 -- ---- forms at the top
 

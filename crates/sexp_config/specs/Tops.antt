@@ -20,7 +20,7 @@ use Rattle.config_terms.specs.declared.fault.ConfigWhy.TheVariants as why
 use Rattle.config_terms.specs.declared.word.StreamWord.TheVariants as word
 use Rattle.config_terms.specs.declared.word.TopWord.{TopWord}
 use Rattle.config_terms.specs.declared.word.TopWord.TheVariants as top
-use Rattle.config_terms.specs.Steps.{Fault, ◌>>=◌, start_of, nth, argument, at_most, each, name_in}
+use Rattle.config_terms.specs.Steps.{Fault, ◌>>=◌, start_of, nth, argument, at_most, each, onto, name_in}
 use Rattle.ev_types.specs.Names.{named_field}
 use Rattle.config_terms.specs.Words.{stream_text, top_word, tags_text, keep_text, host_text, port_text}
 use Rattle.config_terms.specs.Arguments.{Env, bound_value, Argument, Text, Pattern, Number, Keyword, Index, argument_of}
@@ -119,11 +119,8 @@ keep_in _ = None
 unfoldable pub keep_at : Env → FormTree → Result KeepKey Fault
 keep_at env f = fitting (start_of f) (argument_of env f) (keep_in (argument_of env f))
 
-abbrev pub with_keep : Env → List KeepKey → FormTree → Result (List KeepKey) Fault
-with_keep env keys f = keep_at env f >>= λ key. Ok (keys ++ key ∷ [])
-
 unfoldable pub keys_at : Env → FormTree → Result (List KeepKey) Fault
-keys_at env f = vector_at env f >>= each (with_keep env) []
+keys_at env f = vector_at env f >>= each (onto (keep_at env)) []
 
 abbrev pub default_keys : List KeepKey
 default_keys = keep.Field Host ∷ keep.Field Service ∷ []

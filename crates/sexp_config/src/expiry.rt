@@ -3,9 +3,9 @@
 ghost use Rattle.std.specs.Prelude.{◌≡◌, ◌≤◌, [], IfOk, None, Ok};
 ghost use Rattle.sexp_read.specs.Tree.{form_tree, form_trees};
 ghost use Rattle.config_terms.specs.Words.{keep_text};
-ghost use Rattle.config_terms.specs.Steps.{Gives, each, nth as nth_of};
+ghost use Rattle.config_terms.specs.Steps.{Gives, each, onto, nth as nth_of};
 ghost use Rattle.config_terms.specs.Arguments.{one_entry};
-ghost use Rattle.sexp_config.specs.Tops.{keep_in as keep_of, keep_field, keep_at as keep_from, with_keep, keys_at as keys_read, default_keys as default_keys_of, interval_by as interval_of, keys_of_map as keys_of_map_at, keys_by as keys_by_form, expiry_in as expiry_of};
+ghost use Rattle.sexp_config.specs.Tops.{keep_in as keep_of, keep_field, keep_at as keep_from, keys_at as keys_read, default_keys as default_keys_of, interval_by as interval_of, keys_of_map as keys_of_map_at, keys_by as keys_by_form, expiry_in as expiry_of};
 ghost use Rattle.ev_types.specs.Names.{named_field};
 ghost use Rattle.config_terms.specs.Code.{argument_in};
 
@@ -52,7 +52,7 @@ fn keep_at(alloc: Global, env: &[Binding], form: &Form) -> Result<KeepKey, Confi
 
 #[tactic(auto, unfolding(config_terms::specs::Steps::each))]
 fn keys_in(alloc: Global, env: &[Binding], forms: &[Form]) -> Result<KeepKeys, ConfigFault>
-    ensures { Gives result (each (with_keep env.now) [] (form_trees forms.now)) }
+    ensures { Gives result (each (onto (keep_from env.now)) [] (form_trees forms.now)) }
 {
     let mut keys = KeepKeys::fresh(alloc);
     let mut left = forms;

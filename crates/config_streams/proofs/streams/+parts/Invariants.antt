@@ -11,8 +11,8 @@ decreases-part_at l = 4 * form_weight (form_tree l.form.now)
 abbrev pub decreases-call_part : goal.decreases-call_part
 decreases-call_part l = 4 * weight (form_trees l.forms.now) + 3
 
-abbrev pub decreases-else_part : goal.decreases-else_part
-decreases-else_part l = 4 * weight (form_trees l.forms.now) + 2
+abbrev pub decreases-rest_part : goal.decreases-rest_part
+decreases-rest_part l = 4 * weight (form_trees l.forms.now) + 2
 
 abbrev pub decreases-followed : goal.decreases-followed
 decreases-followed l = 4 * weight (form_trees l.forms.now) + 2

@@ -1,8 +1,7 @@
--- The shapes of the arguments of streams: of each, its values, which form represents which value, and what is read.
-use Rattle.std.specs.Prelude.{ℕ, ℤ, List, [], ◌∷◌, codes, Option, Some, None, Result, Ok, Err}
+-- The sorts of the arguments of streams: the values of each sort, which form represents which value, and what is read.
+use Rattle.std.specs.Prelude.{◌≡◌, ℕ, ℤ, List, [], ◌∷◌, Option, Some, None, Result, Ok, Err}
 use Rattle.ev_types.specs.declared.field.Field.{Field}
 use Rattle.ev_types.specs.declared.settings.Fold.{Fold}
-use Rattle.ev_types.specs.declared.settings.Fold.TheVariants as fold
 use Rattle.ev_types.specs.declared.settings.Set.{Set}
 use Rattle.ev_types.specs.declared.value.Value.{Value}
 use Rattle.pred_eval.specs.Tree.{Tree}
@@ -12,32 +11,32 @@ use Rattle.sexp_read.specs.Written.{BareTree, BareTrees}
 use Rattle.stream_plan.specs.declared.kinds.TheConstants.{MAX_COUNT, MAX_SECS}
 use Rattle.config_terms.specs.declared.binding.Bound.TheVariants as bound
 use Rattle.config_terms.specs.Steps.{Fault, ◌>>=◌, start_of}
-use Rattle.config_terms.specs.Words.{fold_word, init_text}
+use Rattle.config_terms.specs.Words.{fold_text, fold_word, init_text}
 use Rattle.config_terms.specs.Arguments.{Env, argument_of, misfit, text_at, number_at, value_at, field_at, ranged_at}
 use Rattle.config_terms.specs.Arguments.{texts_at, fields_at, some_of, set_at, sets_from, map_at, one_entry, idle_in}
 use Rattle.config_terms.specs.Rules.{rule_at}
 use Rattle.config_terms.specs.Grammar.{symbol, IsLiteral, IsPredicate}
 use Rattle.config_terms.specs.Terms.{map_of, IsRanged, IsField, IsTexts, IsFields, IsSet, AreSets, IsInit, IsIdle}
 
-pub data Shape : Type 0 where
-  Count : Shape
-  Secs : Shape
-  Number : Shape
-  Text : Shape
-  Texts : Shape
-  SomeTexts : Shape
-  OneField : Shape
-  Fields : Shape
-  Rule : Shape
+pub data Sort : Type 0 where
+  Count : Sort
+  Secs : Sort
+  Number : Sort
+  Text : Sort
+  Texts : Sort
+  SomeTexts : Sort
+  OneField : Sort
+  Fields : Sort
+  Rule : Sort
   -- a value that fits the field
-  SetTo : Field → Shape
-  Sets : Shape
-  Init : Shape
+  SetTo : Field → Sort
+  Sets : Sort
+  Init : Sort
   -- seconds, up to the most
-  Idle : ℕ → Shape
-  FoldWord : Shape
+  Idle : ℕ → Sort
+  FoldWord : Sort
 
-abbrev pub ValueOf : Shape → Type 0
+abbrev pub ValueOf : Sort → Type 0
 ValueOf Count = ℕ
 ValueOf Secs = ℕ
 ValueOf Number = ℤ
@@ -55,12 +54,9 @@ ValueOf FoldWord = Fold
 
 -- ---- which forms represent which values
 
--- F, a word whatever it is bound to
-pub data IsFold : BareTree → Fold → Type 0 where
-  sum : IsFold (symbol (codes "folds/sum")) fold.Sum
-  minimum : IsFold (symbol (codes "folds/minimum")) fold.Minimum
-  maximum : IsFold (symbol (codes "folds/maximum")) fold.Maximum
-  counted : IsFold (symbol (codes "folds/count")) fold.Count
+-- a word, whatever it is bound to
+abbrev pub IsFold : BareTree → Fold → Type 0
+IsFold form fold = form ≡ symbol (fold_text fold)
 
 -- one text at least
 pub data IsSomeTexts : Env → BareTree → List (List ℕ) → Type 0 where
@@ -71,7 +67,7 @@ pub data IsSomeTexts : Env → BareTree → List (List ℕ) → Type 0 where
 pub data IsMapOf {A : Type 0} (Are : Env → BareTrees → A → Type 0) : Env → BareTree → A → Type 0 where
   a_map : {env : Env} {entries : BareTrees} {a : A} → Are env entries a → IsMapOf Are env (map_of entries) a
 
-abbrev pub IsA : (shape : Shape) → Env → BareTree → ValueOf shape → Type 0
+abbrev pub IsA : (sort : Sort) → Env → BareTree → ValueOf sort → Type 0
 IsA Count env x count = IsRanged 1 MAX_COUNT env x count
 IsA Secs env x secs = IsRanged 1 MAX_SECS env x secs
 IsA Number env x number = IsLiteral env x (bound.Number number)
@@ -114,7 +110,7 @@ sets_in place env forms = sets_from place env [] forms
 abbrev pub init_in : ℕ → Env → FormTrees → Result Value Fault
 init_in place env forms = one_entry init_text value_at place env None forms
 
-abbrev pub read_as : (shape : Shape) → Env → FormTree → Result (ValueOf shape) Fault
+abbrev pub read_as : (sort : Sort) → Env → FormTree → Result (ValueOf sort) Fault
 read_as Count env f = ranged_at 1 MAX_COUNT env f
 read_as Secs env f = ranged_at 1 MAX_SECS env f
 read_as Number env f = number_at env f
