@@ -154,7 +154,8 @@ record KindWritten (in_fork : Bool) (one : KindTree) : Type 0 where
 
 written : {in_fork : Bool} {one : KindTree} → (from : StreamWord) → (args : List BareTree)
     → ((rest : BareTrees) → IsPlain rest → Matches [] (row_of in_fork from) (and_then (listed args) rest) one rest)
-    → ((forms : List BareTree) → kind_form one forms ≡ worded (stream_text from) (and_then (listed args) (listed forms)))
+    → ((forms : List BareTree) → kind_form one forms ≡ worded (stream_text from)
+    (and_then (listed args) (listed forms)))
     → AreWritable (listed args) → is_by from ≡ stream_is_by one → KindWritten in_fork one
 written {in_fork} {one} from args is form_is writable forks =
     record { from = from; own = listed args; is = is; form_is = form_is; writable = writable; forks = forks }
@@ -172,17 +173,20 @@ where_written in_fork one is =
 sets_with : (in_fork : Bool) (sets : List Set) → Good sort.Sets sets → KindWritten in_fork (plan.With sets)
 unfolding row_of
 sets_with in_fork sets is =
-    written word.With (map_form (set_forms sets) ∷ []) (λ rest _. there refl (taken sets is.0 made)) (λ forms. refl) (is.1, tt) refl
+    written word.With (map_form (set_forms sets) ∷ []) (λ rest _. there refl (taken sets is.0 made)) (λ forms. refl)
+    (is.1, tt) refl
 
 sets_default : (in_fork : Bool) (sets : List Set) → Good sort.Sets sets → KindWritten in_fork (plan.Default sets)
 unfolding row_of
 sets_default in_fork sets is =
-    written word.Default (map_form (set_forms sets) ∷ []) (λ rest _. there refl (taken sets is.0 made)) (λ forms. refl) (is.1, tt) refl
+    written word.Default (map_form (set_forms sets) ∷ []) (λ rest _. there refl (taken sets is.0 made))
+    (λ forms. refl) (is.1, tt) refl
 
 coalesce_with : (in_fork : Bool) (secs : ℕ) → Good sort.Secs secs → KindWritten in_fork (plan.Coalesce secs)
 unfolding row_of
 coalesce_with in_fork secs is =
-    written word.Coalesce (number_form (pos secs) ∷ []) (λ rest _. there refl (taken secs is.0 made)) (λ forms. refl) (is.1, tt) refl
+    written word.Coalesce (number_form (pos secs) ∷ []) (λ rest _. there refl (taken secs is.0 made)) (λ forms. refl)
+    (is.1, tt) refl
 
 tagged_with_some : (in_fork : Bool) (tags : List (List ℕ)) → Good sort.SomeTexts tags
     → KindWritten in_fork (plan.Where (all_tagged tags))
@@ -200,46 +204,67 @@ rows_written in_fork word.Notice = λ name is.
     written word.Notice (text_form name ∷ []) (λ rest _. taken name is.0 made) (λ forms. refl) (is.1, tt) refl
 rows_written in_fork word.Sdo = written word.Sdo ([]) (λ rest _. made) (λ forms. refl) tt refl
 rows_written in_fork word.Where = λ rule is. where_written in_fork rule is
-rows_written in_fork word.With =
-    (λ sets is. sets_with in_fork sets is, λ field is set fits. sets_with in_fork (set ∷ []) (one_set_good field set is fits))
-rows_written in_fork word.Default =
-    (λ sets is. sets_default in_fork sets is, λ field is set fits. sets_default in_fork (set ∷ []) (one_set_good field set is fits))
+rows_written in_fork word.With = (
+  λ sets is. sets_with in_fork sets is,
+  λ field is set fits. sets_with in_fork (set ∷ [])
+      (one_set_good field set is fits),
+)
+rows_written in_fork word.Default = (
+  λ sets is. sets_default in_fork sets is,
+  λ field is set fits. sets_default in_fork (set ∷ [])
+      (one_set_good field set is fits),
+)
 rows_written in_fork word.Tag = λ tags is.
-    written word.Tag (vector_form (map text_form tags) ∷ []) (λ rest _. taken tags is.0 made) (λ forms. refl) (is.1, tt) refl
+    written word.Tag (vector_form (map text_form tags) ∷ []) (λ rest _. taken tags is.0 made) (λ forms. refl)
+    (is.1, tt) refl
 rows_written in_fork word.By = λ fields is. (
-  λ secs lasts. written word.By (vector_form (map field_form fields) ∷ form_of (sort.Idle 0) secs ∷ []) (λ rest _. taken fields is.0 (there refl (taken secs lasts.0 made)))
+  λ secs lasts. written word.By (vector_form (map field_form fields) ∷ form_of (sort.Idle 0) secs ∷ [])
+      (λ rest _. taken fields is.0 (there refl (taken secs lasts.0 made)))
       (λ forms. refl) (is.1, (lasts.1, tt)) refl,
-  written word.By (vector_form (map field_form fields) ∷ []) (λ rest plain. taken fields is.0 (absent plain made)) (λ forms. refl) (is.1, tt) refl,
+  written word.By (vector_form (map field_form fields) ∷ []) (λ rest plain. taken fields is.0 (absent plain made))
+      (λ forms. refl) (is.1, tt) refl,
 )
 rows_written in_fork word.Changed = λ field is. (
-  λ held starts. written word.Changed (field_form field ∷ form_of sort.Init held ∷ []) (λ rest _. taken field is.0 (there refl (taken held starts.0 made)))
+  λ held starts. written word.Changed (field_form field ∷ form_of sort.Init held ∷ [])
+      (λ rest _. taken field is.0 (there refl (taken held starts.0 made)))
       (λ forms. refl) (is.1, (starts.1, tt)) refl,
-  written word.Changed (field_form field ∷ []) (λ rest plain. taken field is.0 (absent plain made)) (λ forms. refl) (is.1, tt) refl,
+  written word.Changed (field_form field ∷ []) (λ rest plain. taken field is.0 (absent plain made)) (λ forms. refl)
+      (is.1, tt) refl,
 )
 rows_written in_fork word.Runs = λ count is field means.
-    written word.Runs (number_form (pos count) ∷ field_form field ∷ []) (λ rest _. taken count is.0 (taken field means.0 made)) (λ forms. refl) (is.1, (means.1, tt)) refl
+    written word.Runs (number_form (pos count) ∷ field_form field ∷ [])
+    (λ rest _. taken count is.0 (taken field means.0 made)) (λ forms. refl) (is.1, (means.1, tt)) refl
 rows_written in_fork word.Throttle = λ count is secs are.
-    written word.Throttle (number_form (pos count) ∷ number_form (pos secs) ∷ []) (λ rest _. taken count is.0 (taken secs are.0 made)) (λ forms. refl) (is.1, (are.1, tt)) refl
+    written word.Throttle (number_form (pos count) ∷ number_form (pos secs) ∷ [])
+    (λ rest _. taken count is.0 (taken secs are.0 made)) (λ forms. refl) (is.1, (are.1, tt)) refl
 rows_written in_fork word.Rollup = λ count is secs are.
-    written word.Rollup (number_form (pos count) ∷ number_form (pos secs) ∷ []) (λ rest _. taken count is.0 (taken secs are.0 made)) (λ forms. refl) (is.1, (are.1, tt)) refl
+    written word.Rollup (number_form (pos count) ∷ number_form (pos secs) ∷ [])
+    (λ rest _. taken count is.0 (taken secs are.0 made)) (λ forms. refl) (is.1, (are.1, tt)) refl
 rows_written in_fork word.Batch = λ count is secs are.
-    written word.Batch (number_form (pos count) ∷ number_form (pos secs) ∷ []) (λ rest _. taken count is.0 (taken secs are.0 made)) (λ forms. refl) (is.1, (are.1, tt)) refl
+    written word.Batch (number_form (pos count) ∷ number_form (pos secs) ∷ [])
+    (λ rest _. taken count is.0 (taken secs are.0 made)) (λ forms. refl) (is.1, (are.1, tt)) refl
 rows_written in_fork word.Stable = λ secs are field means.
-    written word.Stable (number_form (pos secs) ∷ field_form field ∷ []) (λ rest _. taken secs are.0 (taken field means.0 made)) (λ forms. refl) (are.1, (means.1, tt)) refl
+    written word.Stable (number_form (pos secs) ∷ field_form field ∷ [])
+    (λ rest _. taken secs are.0 (taken field means.0 made)) (λ forms. refl) (are.1, (means.1, tt)) refl
 rows_written in_fork word.Coalesce = (
   λ secs are. coalesce_with in_fork secs are,
   coalesce_with in_fork 1 (a_ranged a_number (omega arith) (omega arith), omega arith),
 )
 rows_written in_fork word.Smap = λ fold is.
-    written word.Smap (symbol_form (fold_text fold) ∷ []) (λ rest _. taken fold is.0 made) (λ forms. refl) (is.1, tt) refl
+    written word.Smap (symbol_form (fold_text fold) ∷ []) (λ rest _. taken fold is.0 made) (λ forms. refl)
+    (is.1, tt) refl
 rows_written in_fork word.FixedEvent = λ count is.
-    written word.FixedEvent (number_form (pos count) ∷ []) (λ rest _. taken count is.0 made) (λ forms. refl) (is.1, tt) refl
+    written word.FixedEvent (number_form (pos count) ∷ []) (λ rest _. taken count is.0 made) (λ forms. refl)
+    (is.1, tt) refl
 rows_written in_fork word.MovingEvent = λ count is.
-    written word.MovingEvent (number_form (pos count) ∷ []) (λ rest _. taken count is.0 made) (λ forms. refl) (is.1, tt) refl
+    written word.MovingEvent (number_form (pos count) ∷ []) (λ rest _. taken count is.0 made) (λ forms. refl)
+    (is.1, tt) refl
 rows_written in_fork word.FixedTime = λ secs are.
-    written word.FixedTime (number_form (pos secs) ∷ []) (λ rest _. taken secs are.0 made) (λ forms. refl) (are.1, tt) refl
+    written word.FixedTime (number_form (pos secs) ∷ []) (λ rest _. taken secs are.0 made) (λ forms. refl)
+    (are.1, tt) refl
 rows_written in_fork word.MovingTime = λ secs are.
-    written word.MovingTime (number_form (pos secs) ∷ []) (λ rest _. taken secs are.0 made) (λ forms. refl) (are.1, tt) refl
+    written word.MovingTime (number_form (pos secs) ∷ []) (λ rest _. taken secs are.0 made) (λ forms. refl)
+    (are.1, tt) refl
 rows_written in_fork word.Expired =
     where_written in_fork expired_rule
     (equal_written field.State (value.Text (codes "expired")) state_tested

@@ -139,7 +139,8 @@ expiry_is : (expiry : Expiry)
     → IsRanged 1 MAX_SECS [] (number_form (pos expiry.interval)) expiry.interval
     × IsWritableTree (number_form (pos expiry.interval))
     → KeysWritten expiry.keep → ExpiryWritten expiry
-expiry_is expiry number keys = (keeping number.0 (only a_keyword (key_vector keys.0)), (refl, (number.1, ((refl, (keys.1, tt)), tt))))
+expiry_is expiry number keys =
+    (keeping number.0 (only a_keyword (key_vector keys.0)), (refl, (number.1, ((refl, (keys.1, tt)), tt))))
 
 expiry_written : (env : Env) → GoodEnv env → (forms : BareTrees) (expiry : Expiry) → IsExpiry env forms expiry
     → AreWritable forms → ExpiryWritten expiry
@@ -149,7 +150,8 @@ expiry_written env e _ _ every_ten w =
 expiry_written env e _ _ (every {n = n} {secs = secs} is) w =
     expiry_is (record { interval = secs; keep = host_and_service }) (number_written 1 MAX_SECS env e n secs is w.0)
     default_keys
-expiry_written env e _ _ (keeping {n = n} {secs = secs} is (only key (key_vector {forms = forms} {keys = keys} are))) w =
+expiry_written env e _ _ (keeping {n = n} {secs = secs} is
+    (only key (key_vector {forms = forms} {keys = keys} are))) w =
     expiry_is (record { interval = secs; keep = keys }) (number_written 1 MAX_SECS env e n secs is w.0)
     (each_written IsKey keep_form env (key_written env e) forms keys are w.1.0.1.0)
 

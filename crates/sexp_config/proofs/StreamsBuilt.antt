@@ -108,7 +108,8 @@ abbrev IsDeep : ℕ → BareTrees → Type 0
 IsDeep n forms = n + bare_depth forms ≤ 64
 
 row_fits : (in_fork : Bool) (env : Env) (from : StreamWord) (row : BareTrees) (one : KindTree) (rest : BareTrees)
-    → Matches env (row_of in_fork from) row one rest → (n : ℕ) → IsDeep n row → KindFits in_fork from one × IsDeep n rest
+    → Matches env (row_of in_fork from) row one rest → (n : ℕ) → IsDeep n row
+    → KindFits in_fork from one × IsDeep n rest
 row_fits in_fork env from row one rest matched n deep =
     yielded env (IsDeep n) Fits (KindFits in_fork from)
     (λ sort x forms value is d. (fits sort env x value is, omega (arith, d))) (row_of in_fork from) row one rest matched
