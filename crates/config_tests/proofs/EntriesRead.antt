@@ -1,8 +1,6 @@
 -- The entries of a test are read exactly as the grammar says, and refused exactly for their first fault.
 use Rattle.std.proofs.Common.{◌≡◌, ℕ, true, false, codes, List, [], ◌∷◌, Option, Some, None, Ok, Err, refl, ap, sym}
 use Rattle.std.proofs.Common.{subst, ◌∙◌, arith}
-use Rattle.std.proofs.lemmas.Slice.Eq.{bytes_eq-Decides}
-use Rattle.std.specs.Str.{bytes_eq}
 use Rattle.ev_types.specs.declared.item.Item.{Item}
 use Rattle.sexp_read.specs.declared.piece.Atom.TheVariants as atom
 use Rattle.sexp_read.specs.declared.piece.Bracket.TheVariants.{Round, Square, Curly}
@@ -15,7 +13,7 @@ use Rattle.config_terms.specs.Arguments.{text_at}
 use Rattle.config_terms.specs.Grammar.{worded}
 use Rattle.config_terms.proofs.BareForms.{also_of, none_of, call_of}
 use Rattle.config_terms.proofs.GrammarRead.{one_of}
-use Rattle.config_terms.proofs.Outcomes.{SomeGood, some_if, some_found}
+use Rattle.config_terms.proofs.Outcomes.{SomeGood, some_found}
 use Rattle.config_terms.proofs.TermLaws.{texts_are_read}
 use Rattle.config_tests.specs.declared.draft.Draft.{Draft}
 use Rattle.config_tests.specs.declared.entry.Entry.TheVariants as entry

@@ -16,7 +16,7 @@ use Rattle.config_terms.specs.declared.binding.Bound.TheVariants as bound
 use Rattle.config_terms.specs.declared.fault.ConfigWhy.TheVariants as why
 use Rattle.config_terms.specs.Steps.{Fault, ◌>>=◌, start_of, each, onto}
 use Rattle.config_terms.specs.Words.{tags_text}
-use Rattle.config_terms.specs.Arguments.{Env, Argument, Text, Pattern, Number, Keyword, Index, Unbound, Forms}
+use Rattle.config_terms.specs.Arguments.{Argument, Text, Pattern, Number, Keyword, Index, Unbound, Forms}
 use Rattle.config_terms.specs.Arguments.{argument_of, is_number, is_ttl_field, fitted, text_at, value_at, set_at}
 use Rattle.config_terms.specs.Arguments.{texts_at, vector_at, map_at}
 use Rattle.config_terms.specs.Grammar.{IsLiteral, IsValue}

@@ -1,10 +1,9 @@
 -- Forms in a row that are read from left to right, each onto what the ones before it gave.
-use Rattle.std.proofs.Common.{◌≡◌, List, [], ◌∷◌, ◌++◌, append_assoc, Result, Ok, Err, refl, ap, sym, subst, ◌∙◌}
-use Rattle.std.proofs.lemmas.List.{append-nil}
+use Rattle.std.proofs.Common.{◌≡◌, List, [], ◌∷◌, ◌++◌, Result, Ok, Err, refl, ap, sym, subst, ◌∙◌}
 use Rattle.sexp_read.specs.Tree.{FormTree, FormTrees, none, also}
 use Rattle.sexp_read.specs.Written.{BareTree, BareTrees, no_trees, and_trees, bare_tree, bare_trees}
 use Rattle.config_terms.specs.Steps.{Fault, ◌>>=◌, each, onto}
-use Rattle.config_terms.proofs.BareForms.{also_of, none_of}
+use Rattle.config_terms.proofs.BareForms.{none_of}
 use Rattle.config_tests.specs.Faults.{and_forms, IsFirstFault}
 use Rattle.config_terms.specs.Terms.{AreEach, no_more, one_more}
 use Rattle.config_tests.specs.Grammar.{then_one}
