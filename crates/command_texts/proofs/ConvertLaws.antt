@@ -3,7 +3,7 @@ use Rattle.std.proofs.Common.{◌≡◌, ℕ, ◌+◌, ◌<◌, ◌⊎◌, List,
 use Rattle.std.proofs.Common.{Err, refl, sym, ◌∙◌, ap, subst, arith, inl, inr, append-nil}
 use Rattle.std.proofs.lemmas.Grind.{flat_map-append}
 use Rattle.std.specs.Borrow.{Bor}
-use Rattle.std.proofs.lemmas.List.{take_more}
+use Rattle.std.proofs.lemmas.List.{get_or_default, take_more}
 use Rattle.command_io.proofs.EndingLaws.{not_over, reported_of}
 use Rattle.command_io.specs.Endings.{Says, status_of}
 use Rattle.command_io.specs.Fetches.{ending_of_file}
@@ -42,6 +42,14 @@ next_line bad i line inside is =
     take_more bad i line inside ∙ ap (λ x. take i bad ++ x ∷ []) (sym is) in
     ap refused_text front ∙ flat_map-append refused_line (take i bad) (line ∷ [])
     ∙ ap (λ more. refused_text (take i bad) ++ more) (append-nil (refused_line line))
+
+pub lines_grow : (bad : List BadLine) (i : ℕ) (default : BadLine) (old new : List ℕ) → i < length bad
+    → old ≡ refused_text (take i bad) → new ≡ old ++ refused_line (get_or bad i default)
+    → new ≡ refused_text (take (i + 1) bad)
+lines_grow bad i default old new inside front more =
+    let line = get_or bad i default in
+    more ∙ ap (λ lines. lines ++ refused_line line) front
+    ∙ sym (next_line bad i line inside (get_or_default bad i default line inside))
 
 -- ---- once the text is read
 

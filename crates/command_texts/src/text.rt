@@ -52,7 +52,6 @@ fn convert(alloc: Global, text: &[u8], host_part: Option<u32>) -> Result<Convert
 }
 
 /// A line for each refused one.
-#[tactic(auto, using(crate::proofs::ConvertLaws::next_line))]
 fn refused_text(alloc: Global, bad: &[BadLine]) -> Result<Blob, Memory>
     ensures { IfOk result (λ text. text ≡ refused_text bad.now) }
 {
