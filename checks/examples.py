@@ -1,10 +1,10 @@
 #!/usr/bin/env python3
-"""examples.py PROGRAM: runs `PROGRAM test` over the configurations in examples/ that have tests, and over a long test.
+"""examples.py PROGRAM: runs `PROGRAM test` over the configurations in examples/, the packaged one, and a long test.
 
-Every test of an example has to pass. Then each number of its configuration is made one less and one more, one change at a
-time, and a test has to fail for it. The long test has 100,000 events and 1,000,000 seconds. What it takes is printed, and
-may be at most 10 seconds of processor time, with each configuration that it is run with. It prints a line for each, and
-ends with status 1 if one is not as it has to be.
+Each configuration that gives notices has tests, and all have to pass. Then each number of it is made one less and one
+more, one change at a time. A test has to fail for it, or the configuration has to be refused. The long test has 100,000
+events and 1,000,000 seconds. What it takes is printed, and may be at most 10 seconds of processor time, with each
+configuration that it is run with. It prints a line for each, and ends with status 1 if one is not as it has to be.
 """
 
 import pathlib
@@ -14,12 +14,17 @@ import subprocess
 import sys
 import tempfile
 
-EXAMPLES = pathlib.Path(__file__).resolve().parent.parent / "examples"
+ROOT = pathlib.Path(__file__).resolve().parent.parent
+EXAMPLES = ROOT / "examples"
 
-PASSED, VERDICT = 0, 12
+# Tests of a configuration that is not beside them.
+ELSEWHERE = {"packaged.tests": ROOT / "packaging/riemann.config"}
 
-# What is no number of a configuration: comments, strings, patterns, and words. A number begins where none of these does.
-TOKEN = re.compile(r';[^\n]*|#?"(?:\\.|[^"\\])*"|[A-Za-z_:=<>][^\s,()\[\]{}";]*|(?P<number>-?[0-9]+)', re.DOTALL)
+PASSED, REFUSED, VERDICT = 0, 2, 12
+
+# What is no number that tests depend on: where the server listens, comments, strings, patterns, and words. A number
+# begins where none of these does.
+TOKEN = re.compile(r'\(tcp-server[^)]*\)|;[^\n]*|#?"(?:\\.|[^"\\])*"|[A-Za-z_:=<>][^\s,()\[\]{}";]*|(?P<number>-?[0-9]+)', re.DOTALL)
 
 EVENTS = 100_000
 SECONDS = 1_000_000
@@ -59,7 +64,7 @@ def changes_of(config):
 
 
 def try_example(program, path):
-    config = path.with_suffix(".config").read_text()
+    config = ELSEWHERE.get(path.name, path.with_suffix(".config")).read_text()
     tests = path.read_text()
     status, out, err, _ = run_tests(program, config, tests)
     lines = out.splitlines()
@@ -69,12 +74,20 @@ def try_example(program, path):
     unseen, count = [], 0
     for change, other in changes_of(config):
         count += 1
-        if run_tests(program, other, tests)[0] != VERDICT:
+        if run_tests(program, other, tests)[0] not in (REFUSED, VERDICT):
             unseen.append(change)
     print(f"examples: {path.name}: {len(lines)} tests pass, {count - len(unseen)} of {count} changes of a number are found")
     for change in unseen:
         print(f"examples: {path.name}: {change} is not found")
     return not unseen
+
+
+def all_have_tests():
+    configs = [path for path in sorted(EXAMPLES.glob("*.config")) if "(notice " in path.read_text()]
+    untested = [path.name for path in configs if not path.with_suffix(".tests").exists()]
+    for name in untested:
+        print(f"examples: {name} has no tests")
+    return not untested
 
 
 # ---- a long test
@@ -95,7 +108,8 @@ def try_long(program, name, config, tests):
 
 def main():
     program = pathlib.Path(sys.argv[1]).resolve()
-    held = [try_example(program, path) for path in sorted(EXAMPLES.glob("*.tests"))]
+    held = [all_have_tests()]
+    held += [try_example(program, path) for path in sorted(EXAMPLES.glob("*.tests"))]
     tests = long_test()
     held += [try_long(program, name, config, tests) for name, config in LONG.items()]
     return 0 if all(held) else 1
