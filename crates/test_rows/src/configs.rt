@@ -8,7 +8,7 @@ use pred_eval::ListPatterns;
 use sexp_config::read_config;
 use std::alloc::Global;
 use std::fmt::Write;
-use stream_plan::{CheckedPlan, build_plan};
+use stream_plan::build_plan;
 
 /// `ok` for a configuration, or why the text is not one.
 pub fn config_answer(alloc: Global, text: &[u8]) -> Result<Blob, RowFault> {
@@ -48,19 +48,15 @@ pub fn written_again(alloc: Global, text: &[u8], wanted: &[u8]) -> Result<Blob, 
 /// How many patterns the plan of a configuration has, or the one that is refused, with the texts that were, or why the
 /// text is not a configuration.
 pub fn patterns_answer(alloc: Global, text: &[u8]) -> Result<Blob, RowFault> {
-    match read_config(alloc, text) {
-        Ok(config) => plan_answer(alloc, config.plan),
-        Err(fault) => Ok(said(format!(in alloc; "{fault}")?)),
-    }
-}
-
-/// How many patterns the plan has, or the one that is refused, with the texts that were.
-fn plan_answer(alloc: Global, plan: CheckedPlan) -> Result<Blob, RowFault> {
+    let config = match read_config(alloc, text) {
+        Ok(config) => config,
+        Err(fault) => return Ok(said(format!(in alloc; "{fault}")?)),
+    };
     let mut patterns = ListPatterns {
         refusals: 0,
         refused: Texts::fresh(alloc),
     };
-    match build_plan(alloc, plan, &mut patterns) {
+    match build_plan(alloc, config.plan, &mut patterns) {
         Ok(ready) => Ok(said(format!(in alloc; "{} built", ready.patterns().len())?)),
         Err(fault) => {
             let mut printed = format!(in alloc; "{fault}")?;
