@@ -29,11 +29,11 @@ use Rattle.command_client.proofs.ExchangeLaws.{exchange_put_rose, exchange_shown
 
 module _ (name : List ℕ) (shown : Bor (List ℕ)) where
   pub unread_as : (store store' : StoreReport) (fault : FileFault) → shown.now ≡ name
-      → IsFileFault (store.held name) FILE_LIMIT store.faults store'.faults store.taken store'.taken fault
+      → IsFileFault name FILE_LIMIT store store' fault
       → IsUnread name store store' (Shared (ending_of_file shown FILE_LIMIT fault))
-  unread_as store store' file.Unread is cause = (cause, is)
-  unread_as store store' file.TooLong is cause = (cause.0, cause.1, is, refl)
-  unread_as store store' file.Memory is cause = tt
+  unread_as store store' file.Unread is cause = (cause.0, is, cause.1)
+  unread_as store store' file.TooLong is cause = (cause.0, cause.1, is, refl, cause.2)
+  unread_as store store' file.Memory is cause = cause
 
   pub fault_reads : (reads reads' : Option (List StoreRead)) (fault : FileFault)
       → ReadMore (reads_of name (Err fault)) reads reads'
@@ -93,10 +93,9 @@ module _ (address name : List ℕ) (limit : ℕ) (store store' : StoreReport) (l
   file_shown linked frames holds fits read_still links_still out_still = elim ends [
     | inl refused ↦ unread_sent name frames store store' ending refused.unread holds fits read_still
     | inr sent ↦
-        (let is =
-        reported_of (store.held name) frames (λ held. (held ≡ sent.frames) × (length sent.frames ≤ FILE_LIMIT)) holds
-        sent.file in
-        subst (λ (bytes : List ℕ). HasSent bytes (status_of ending)) (sym is.0)
+        (let is : frames ≡ sent.frames =
+        reported_of name store store' frames (λ bytes. bytes ≡ sent.frames) holds (sent.frames, sent.gives, refl) in
+        subst (λ (bytes : List ℕ). HasSent bytes (status_of ending)) (sym is)
         (elim sent.ends [
           | inl left ↦ left_sent sent.frames ending (length (partial sent.frames)) left.ended left.left
           | inr all ↦

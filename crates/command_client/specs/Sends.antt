@@ -1,6 +1,6 @@
 -- What `send ADDRESS FILE` promises.
 use Rattle.std.specs.Prelude.{◌≡◌, ◌≢◌, ℕ, ◌+◌, ◌≤◌, ◌⊎◌, List, [], ◌∷◌, length, Option}
-use Rattle.command_io.specs.Files.{ForHeld, ReadMore, bad_read, good_read}
+use Rattle.command_io.specs.Files.{Gives, GivesNone, ReadMore, bad_read, good_read}
 use Rattle.command_io.specs.Reports.{Reports}
 use Rattle.command_io.specs.declared.ending.Ending.TheVariants.{Unread, OverLimit, BytesLeft, LinksFailed, OutOfMemory}
 use Rattle.command_io.specs.declared.limits.TheConstants.{FILE_LIMIT}
@@ -9,7 +9,7 @@ use Rattle.command_io.specs.declared.status.Status.TheVariants.{Done, Memory, Tr
 use Rattle.framing.specs.Frames.{partial}
 use Rattle.ports.specs.Calls.{LinksReport}
 use Rattle.ports.specs.Counts.{IsStill, Rose, RoseBy}
-use Rattle.ports.specs.Reading.{Content, IsHeld, IsOverLimit, StoreReport}
+use Rattle.ports.specs.Reading.{IsHeld, IsOverLimit, StoreReport}
 use Rattle.ports.specs.Writing.{SinkReport}
 use Rattle.ports.specs.declared.store.StoreRead.{StoreRead}
 use Rattle.command_client.specs.Endings.{HasRead, Says, status_of}
@@ -41,10 +41,12 @@ FramesEnd address stream limit links links' out out' ending =
 
 -- why there are no frames of the file of the name; the ending has this name and its limit
 abbrev pub IsUnread : List ℕ → StoreReport → StoreReport → ClientEnding → Type 0
-IsUnread file store store' (Shared (Unread name)) = Rose store.faults store'.faults × (name.now ≡ file)
+IsUnread file store store' (Shared (Unread name)) =
+    Rose store.faults store'.faults × (name.now ≡ file) × GivesNone store store'
 IsUnread file store store' (Shared (OverLimit name limit)) = IsOverLimit (store.held file) FILE_LIMIT
     × RoseBy (FILE_LIMIT + 1) store.taken store'.taken × (name.now ≡ file) × (limit ≡ FILE_LIMIT)
-IsUnread file store store' (Shared OutOfMemory) = Unit {0}
+    × GivesNone store store'
+IsUnread file store store' (Shared OutOfMemory) = GivesNone store store'
 IsUnread file store store' _ = ⊥
 
 -- the file was not read, and nothing was done
@@ -54,18 +56,19 @@ pub record RefusesFile (file : List ℕ) (store store' : StoreReport) (links lin
   pub uncalled : links' ≡ links
   pub untouched : out' ≡ out
 
--- the file is these bytes, within its limit
-pub record SendsFile (address : List ℕ) (limit : ℕ) (content : Content) (links links' : LinksReport)
+-- a read of the file of the name gave these bytes, within its limit
+pub record SendsFile (address file : List ℕ) (limit : ℕ) (store store' : StoreReport) (links links' : LinksReport)
     (out out' : SinkReport) (ending : ClientEnding) : Type 0 where
   pub frames : List ℕ
-  pub file : ForHeld content (λ held. (held ≡ frames) × (length frames ≤ FILE_LIMIT))
+  pub gives : Gives file frames store store'
+  pub within : length frames ≤ FILE_LIMIT
   pub ends : FramesEnd address frames limit links links' out out' ending
 
 abbrev pub FileEnds : List ℕ → List ℕ → ℕ → StoreReport → StoreReport → LinksReport → LinksReport → SinkReport
     → SinkReport → ClientEnding → Type 0
 FileEnds address file limit store store' links links' out out' ending =
     RefusesFile file store store' links links' out out' ending
-    ⊎ SendsFile address limit (store.held file) links links' out out' ending
+    ⊎ SendsFile address file limit store store' links links' out out' ending
 
 -- The file was read once, and the read failed exactly where the ending says so. If memory ran out, it may not have been
 -- read.

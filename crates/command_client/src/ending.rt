@@ -14,7 +14,7 @@ use riemann_msg::MsgWhy;
 /// How the command ended, with the values that its line shows.
 #[derive(Clone, Copy)]
 pub(crate) enum ClientEnding<'a> {
-    /// One that other commands have too. `Finished` is that each request has a reply.
+    /// One that other commands have too. `Finished` is that the exchange is whole.
     Shared(Ending<'a>),
     /// The exchange was lost, with so many replies to so many requests.
     Lost {

@@ -15,7 +15,7 @@ use ev_types::{Blob, Text};
 use ports::{Links, Sink};
 use std::alloc::Global;
 
-/// Has the exchange of the requests, whose number this is, and writes the lines of their replies to `out`, in one put.
+/// Has the exchange of the requests, whose number this is, and writes the lines of their replies to `out`.
 pub(crate) fn have_exchange<'a, L: Links, O: Sink>(
     alloc: Global,
     address: &Text,

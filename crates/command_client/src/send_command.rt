@@ -22,7 +22,7 @@ use std::alloc::Global;
 ///
 /// | Status | When | Line on `err` |
 /// |---|---|---|
-/// | `Done` | each request has a reply | no |
+/// | `Done` | each request has a reply, and no other reply came with them | no |
 /// | `Unanswered` | requests are left without a reply, and no reply can come, or no turn is left | yes |
 /// | `BadReply` | a reply came whole before its request was sent whole, or is not a message | yes |
 /// | `SinkFault` | the lines of the replies could not be written; `out` got only a prefix of them | no |

@@ -1,6 +1,6 @@
 -- What `feed` promises, from what its parts say.
 use Rattle.std.proofs.Common.{◌≡◌, ℕ, ◌≤◌, ◌⊎◌, List, length, refl, sym, inl, inr, subst, arith}
-use Rattle.command_setup.proofs.CommandIoEndingLaws.{reported_of}
+use Rattle.command_setup.proofs.CommandIoEndingLaws.{held_since, reported_of, rose_since, still_since}
 use Rattle.command_setup.specs.command_io.Endings.{Says, status_of}
 use Rattle.ports.specs.Calls.{LinksReport}
 use Rattle.ports.specs.Writing.{SinkReport}
@@ -13,117 +13,38 @@ use Rattle.command_setup.specs.command_io.declared.limits.TheConstants.{CONFIG_L
 use Rattle.command_setup.specs.command_io.declared.status.Status.TheVariants.{ReadFault, SinkFault, LinkFault}
 use Rattle.command_setup.proofs.SetupLaws.{refused_for_memory, refused_not_linked, refused_not_written, refused_rose}
 use Rattle.command_setup.specs.Setups.{SetsUp}
-use Rattle.command_files.proofs.OtherLaws.{file_refused_for_memory, file_refused_since, file_rose}
-use Rattle.command_files.specs.Files.{IsFile, ReadsBoth, RefusesFile}
+use Rattle.command_files.proofs.OtherLaws.{file_refused_for_memory, file_rose}
+use Rattle.command_files.specs.Files.{ReadsBoth, RefusesFile}
 use Rattle.framing.specs.Frames.{partial}
 use Rattle.command_setup.specs.hub_meaning.Verdicts.{PatternsReport}
 use Rattle.command_setup.specs.hub_run.declared.setup.Setup.{Setup}
 use Rattle.ports.specs.Counts.{IsStill, Rose}
-use Rattle.ports.specs.Reading.{Content, IsHeld, StoreReport}
+use Rattle.ports.specs.Reading.{IsHeld, StoreReport}
 use Rattle.command_setup.specs.sexp_config.declared.config.Config.{Config}
 use Rattle.command_setup.specs.sexp_config.Config.{IsConfigOf}
-use Rattle.command_files.specs.Feeds.{BytesEnd, FeedEnds, FeedsAll, FileEnds, HasFed}
-
--- ---- what a run does not depend on
-
-all_since : (setup : Setup) (bytes : List ℕ) (store mid store' : StoreReport) (links : LinksReport)
-    (out out' err err' : SinkReport)
-    (patterns patterns' : PatternsReport) (forks forks' : ℕ) (Wrote : List ℕ → Type 0)
-    → FeedsAll setup bytes (reports mid links out err patterns forks) (reports store' links out' err' patterns' forks')
-    Wrote
-    → FeedsAll setup bytes (reports store links out err patterns forks)
-    (reports store' links out' err' patterns' forks') Wrote
-all_since setup bytes store mid store' links out out' err err' patterns patterns' forks forks' Wrote all =
-    record {
-      run = all.run;
-      scripted = all.scripted;
-      hub = all.hub;
-      ran = all.ran;
-      wrote = all.wrote;
-      all_lines = all.all_lines;
-    }
-
--- what the store reported does not matter once the file was read
-bytes_since : (setup : Setup) (bytes : List ℕ) (store mid store' : StoreReport) (links : LinksReport)
-    (out out' err err' : SinkReport)
-    (patterns patterns' : PatternsReport) (forks forks' : ℕ) (ending : Ending)
-    → BytesEnd setup bytes (reports mid links out err patterns forks) (reports store' links out' err' patterns' forks')
-    ending
-    → BytesEnd setup bytes (reports store links out err patterns forks)
-    (reports store' links out' err' patterns' forks') ending
-bytes_since setup bytes store mid store' links out out' err err' patterns patterns' forks forks' Finished ends =
-    (all_since setup bytes store mid store' links out out' err err' patterns patterns' forks forks' _ ends.0, ends.1)
-bytes_since setup bytes store mid store' links out out' err err' patterns patterns' forks forks' (BytesLeft count)
-    ends = (
-      all_since setup bytes store mid store' links out out' err err' patterns patterns' forks forks' _ ends.0,
-      ends.1,
-      ends.2,
-    )
-bytes_since setup bytes store mid store' links out out' err err' patterns patterns' forks forks' WriteFailed ends =
-    elim ends [
-      | inl some ↦ inl (record { run = some.0.run; ran = some.0.ran; no_reply = some.0.no_reply }, some.1)
-      | inr all ↦
-          inr (
-            all_since setup bytes store mid store' links out out' err err' patterns patterns' forks forks' _ all.0,
-            all.1,
-          )
-    ]
-bytes_since setup bytes store mid store' links out out' err err' patterns patterns' forks forks' OutOfMemory ends =
-    elim ends [
-      | inl idle ↦ inl idle
-      | inr some ↦ inr (record { run = some.0.run; ran = some.0.ran; no_reply = some.0.no_reply }, some.1)
-    ]
-bytes_since setup bytes store mid store' links out out' err err' patterns patterns' forks forks' (ConfigRefused refusal)
-    ends =
-    absurd ends
-bytes_since setup bytes store mid store' links out out' err err' patterns patterns' forks forks' (Unread unread) ends =
-    absurd ends
-bytes_since setup bytes store mid store' links out out' err err' patterns patterns' forks forks' (OverLimit over limit)
-    ends =
-    absurd ends
-bytes_since setup bytes store mid store' links out out' err err' patterns patterns' forks forks' LinksFailed ends =
-    absurd ends
-bytes_since setup bytes store mid store' links out out' err err' patterns patterns' forks forks' (ScriptRefused line)
-    ends =
-    absurd ends
+use Rattle.command_files.specs.Feeds.{BytesEnd, FeedEnds, FileEnds, HasFed}
 
 -- the configuration was accepted, and then the file was refused or fed
 pub feed_ended : (config file : List ℕ) (setup : Setup) (store mid store' : StoreReport) (links : LinksReport)
     (out out' err err' : SinkReport)
     (patterns between patterns' : PatternsReport) (forks forks' : ℕ) (Unasked : Type 0) (ending : Ending)
-    → SetsUp (store.held config) setup
-    → mid.faults ≡ store.faults → store.taken ≤ mid.taken → between ≡ patterns → mid.held ≡ store.held
+    → SetsUp config store mid setup → between ≡ patterns
     → ReadsBoth config file store.reads store'.reads ending
     → FileEnds setup file (reports mid links out err between forks) (reports store' links out' err' patterns' forks')
     ending
     → FeedEnds config file (reports store links out err patterns forks)
     (reports store' links out' err' patterns' forks') Unasked ending
 feed_ended config file setup store mid store' links out out' err err' patterns between patterns' forks forks' Unasked
-    ending sets faults taken same held reads ends =
-    let moved : FileEnds setup file (reports mid links out err patterns forks)
-    (reports store' links out' err' patterns' forks') ending
-    = subst
-    (λ state. FileEnds setup file (reports mid links out err state forks)
-    (reports store' links out' err' patterns' forks') ending)
-    same ends in
+    ending sets same reads ends =
     inr (
       setup,
+      mid,
       sets,
       reads,
-      elim moved [
-        | inl refused ↦
-            inl (
-              file_refused_since file store mid store' ending faults taken held refused.0,
-              refused.1,
-              refused.2,
-              refused.3,
-            )
-        | inr fed ↦ inr (
-          fed.0,
-          subst (λ (files : List ℕ → Content). IsFile (files file) fed.0) held fed.1,
-          bytes_since setup fed.0 store mid store' links out out' err err' patterns patterns' forks forks' ending fed.2,
-        )
-      ],
+      subst
+          (λ state. FileEnds setup file (reports mid links out err state forks)
+          (reports store' links out' err' patterns' forks') ending)
+          same ends,
     )
 
 -- ---- how a run does not end
@@ -199,9 +120,11 @@ pub feed_read_rose : (config file : List ℕ) (old new : Reports) (Unasked : Typ
     → status_of ending ≡ ReadFault → Rose old.store.faults new.store.faults
 feed_read_rose config file old new Unasked ending ends e = elim ends [
   | inl refused ↦ refused_rose config old.store new.store old.patterns new.patterns ending refused.0 e
-  | inr accepted ↦ elim accepted.3 [
-    | inl refused ↦ file_rose file old.store new.store ending refused.0 e
-    | inr fed ↦ absurd (bytes_not_read accepted.0 fed.0 old new ending fed.2 e)
+  | inr accepted ↦ elim accepted.4 [
+    | inl refused ↦
+        rose_since config accepted.2.0 old.store accepted.1 new.store.faults accepted.2.1
+        (file_rose file accepted.1 new.store ending refused.0 e)
+    | inr fed ↦ absurd (bytes_not_read accepted.0 fed.0 (record old { store = accepted.1 }) new ending fed.2 e)
   ]
 ]
 
@@ -210,9 +133,9 @@ feed_sink_rose : (config file : List ℕ) (old new : Reports) (Unasked : Type 0)
     → status_of ending ≡ SinkFault → Rose old.out.faults new.out.faults ⊎ Rose old.err.faults new.err.faults
 feed_sink_rose config file old new Unasked ending ends e = elim ends [
   | inl refused ↦ absurd (refused_not_written config old.store new.store old.patterns new.patterns ending refused.0 e)
-  | inr accepted ↦ elim accepted.3 [
-    | inl refused ↦ absurd (file_not_written file old.store new.store ending refused.0 e)
-    | inr fed ↦ bytes_wrote accepted.0 fed.0 old new ending fed.2 e
+  | inr accepted ↦ elim accepted.4 [
+    | inl refused ↦ absurd (file_not_written file accepted.1 new.store ending refused.0 e)
+    | inr fed ↦ bytes_wrote accepted.0 fed.0 (record old { store = accepted.1 }) new ending fed.2 e
   ]
 ]
 
@@ -221,9 +144,9 @@ pub feed_not_linked : (config file : List ℕ) (old new : Reports) (Unasked : Ty
     → status_of ending ≡ LinkFault → ⊥
 feed_not_linked config file old new Unasked ending ends e = elim ends [
   | inl refused ↦ refused_not_linked config old.store new.store old.patterns new.patterns ending refused.0 e
-  | inr accepted ↦ elim accepted.3 [
-    | inl refused ↦ file_not_linked file old.store new.store ending refused.0 e
-    | inr fed ↦ bytes_not_linked accepted.0 fed.0 old new ending fed.2 e
+  | inr accepted ↦ elim accepted.4 [
+    | inl refused ↦ file_not_linked file accepted.1 new.store ending refused.0 e
+    | inr fed ↦ bytes_not_linked accepted.0 fed.0 (record old { store = accepted.1 }) new ending fed.2 e
   ]
 ]
 
@@ -293,16 +216,20 @@ feed_complete config file old new Unasked text bytes read ending ends holds is f
       | inl refused ↦
           for_memory _ ending (refused_for_memory config text read old.store new.store old.patterns new.patterns ending
           holds is fits reads_still still refused.0)
-      | inr accepted ↦ elim accepted.3 [
+      | inr accepted ↦ elim accepted.4 [
         | inl refused ↦
             for_memory _ ending
-            (file_refused_for_memory file bytes old.store new.store ending holds_bytes bytes_fit reads_still refused.0)
+            (file_refused_for_memory file bytes accepted.1 new.store ending
+            (held_since config accepted.2.0 file bytes old.store accepted.1 accepted.2.1 holds_bytes) bytes_fit
+            (still_since config accepted.2.0 old.store accepted.1 new.store.faults accepted.2.1 reads_still)
+            refused.0)
         | inr fed ↦
             let same : bytes ≡ fed.0 =
-            (reported_of (old.store.held file) bytes (λ held. held ≡ fed.0) holds_bytes
-            (λ held reported. let is = fed.1 held reported in (is.0, is.1, is.2.0))) in
+            reported_of file accepted.1 new.store bytes (λ text. text ≡ fed.0)
+            (held_since config accepted.2.0 file bytes old.store accepted.1 accepted.2.1 holds_bytes)
+            (fed.0, fed.1.0, refl) in
             subst (λ (list : List ℕ). HasFed (partial list) (status_of ending)) (sym same)
-            (bytes_complete accepted.0 fed.0 old new ending fed.2 out_still err_still)
+            (bytes_complete accepted.0 fed.0 (record old { store = accepted.1 }) new ending fed.2 out_still err_still)
       ]
     ]
 

@@ -1,5 +1,5 @@
 -- What a command read of its two files, from what one read after another answered.
-use Rattle.std.proofs.Common.{◌≡◌, ℕ, suc, ◌≤◌, List, [], ◌∷◌, length, refl, ap, subst, arith}
+use Rattle.std.proofs.Common.{◌≡◌, ℕ, suc, ◌≤◌, List, [], ◌∷◌, length, refl, ap, arith}
 use Rattle.std.specs.Borrow.{Bor}
 use Rattle.std.specs.Prelude.{Option}
 use Rattle.command_setup.proofs.CommandIoReadLaws.{reads_both}
@@ -15,7 +15,7 @@ use Rattle.command_setup.specs.command_io.declared.read.FileFault.TheVariants as
 use Rattle.command_setup.specs.command_io.declared.status.Status.TheVariants.{ReadFault}
 use Rattle.command_setup.proofs.CommandIoEndingLaws.{not_over}
 use Rattle.ports.specs.Counts.{IsStill, Rose}
-use Rattle.ports.specs.Reading.{Content, IsHeld, IsOverLimit, StoreReport}
+use Rattle.ports.specs.Reading.{IsHeld, StoreReport}
 use Rattle.ports.specs.declared.store.StoreRead.{StoreRead}
 use Rattle.command_files.specs.Files.{IsAfterRun, IsReadTwice, OtherReads, ReadsBoth, RefusesFile}
 
@@ -23,11 +23,11 @@ use Rattle.command_files.specs.Files.{IsAfterRun, IsReadTwice, OtherReads, Reads
 
 pub other_refused : (name : List ℕ) (shown : Bor (List ℕ)) (old new : StoreReport) (fault : FileFault)
     → shown.now ≡ name
-    → IsFileFault (old.held name) FILE_LIMIT old.faults new.faults old.taken new.taken fault
+    → IsFileFault name FILE_LIMIT old new fault
     → RefusesFile name old new (ending_of_file shown FILE_LIMIT fault)
-other_refused name shown old new file.Unread is cause = (cause, is)
-other_refused name shown old new file.TooLong is cause = (cause.0, cause.1, is, refl)
-other_refused name shown old new file.Memory is cause = tt
+other_refused name shown old new file.Unread is cause = (cause.0, is, cause.1)
+other_refused name shown old new file.TooLong is cause = (cause.0, cause.1, is, refl, cause.2)
+other_refused name shown old new file.Memory is cause = cause
 
 pub other_unread : (old new : Option (List StoreRead)) (name : List ℕ) (shown : Bor (List ℕ)) (fault : FileFault)
     → ReadMore (reads_of_fault name fault) old new
@@ -51,25 +51,6 @@ run_not_refused (ScriptRefused line) after refusal = after
 run_not_refused OutOfMemory after refusal = refusal
 
 -- ---- the file was refused
-
--- what was counted since a later moment was counted since an earlier one
-pub file_refused_since : (name : List ℕ) (old mid new : StoreReport) (ending : Ending) → mid.faults ≡ old.faults
-    → old.taken ≤ mid.taken
-    → mid.held ≡ old.held → RefusesFile name mid new ending → RefusesFile name old new ending
-file_refused_since name old mid new Finished same rises held refuses = absurd refuses
-file_refused_since name old mid new (ConfigRefused refusal) same rises held refuses = absurd refuses
-file_refused_since name old mid new (Unread unread) same rises held refuses = (rw same at refuses.0, refuses.1)
-file_refused_since name old mid new (OverLimit over limit) same rises held refuses = (
-  subst (λ (files : List ℕ → Content). IsOverLimit (files name) FILE_LIMIT) held refuses.0,
-  λ small. omega (arith, refuses.1 small),
-  refuses.2,
-  refuses.3,
-)
-file_refused_since name old mid new (BytesLeft count) same rises held refuses = absurd refuses
-file_refused_since name old mid new WriteFailed same rises held refuses = absurd refuses
-file_refused_since name old mid new LinksFailed same rises held refuses = absurd refuses
-file_refused_since name old mid new (ScriptRefused line) same rises held refuses = absurd refuses
-file_refused_since name old mid new OutOfMemory same rises held refuses = tt
 
 pub file_rose : (name : List ℕ) (old new : StoreReport) (ending : Ending) → RefusesFile name old new ending
     → status_of ending ≡ ReadFault

@@ -2,6 +2,7 @@
 use Rattle.std.proofs.Common.{◌≡◌, ℕ, ◌≤◌, List, length, inl, inr, subst, arith}
 use Rattle.std.specs.Prelude.{Ok}
 use Rattle.command_setup.specs.command_io.Endings.{IsDoneOrMemory, status_of}
+use Rattle.command_setup.proofs.CommandIoEndingLaws.{held_since, rose_since, still_since}
 use Rattle.ports.specs.Calls.{LinksReport}
 use Rattle.ports.specs.Writing.{SinkReport}
 use Rattle.command_setup.specs.command_io.Reports.{Reports, reports}
@@ -17,91 +18,36 @@ use Rattle.command_files.specs.Files.{ReadsBoth}
 use Rattle.command_setup.specs.hub_meaning.Verdicts.{PatternsReport}
 use Rattle.command_setup.specs.hub_run.declared.setup.Setup.{Setup}
 use Rattle.ports.specs.Counts.{IsStill, Rose}
-use Rattle.ports.specs.Reading.{Content, IsHeld, StoreReport}
+use Rattle.ports.specs.Reading.{IsHeld, StoreReport}
 use Rattle.ports.specs.declared.script.Script.{Script}
 use Rattle.script_text.specs.Scripts.{script_of}
 use Rattle.command_setup.specs.sexp_config.declared.config.Config.{Config}
 use Rattle.command_setup.specs.sexp_config.Config.{IsConfigOf}
-use Rattle.command_files.proofs.ScriptLaws.{script_refused_for_memory, script_refused_since, script_rose}
+use Rattle.command_files.proofs.ScriptLaws.{script_refused_for_memory, script_rose}
 use Rattle.command_files.specs.Replays.{PlayEnds, ReplayEnds, ScriptEnds}
-use Rattle.command_files.specs.Scripts.{IsScript, RefusesScript}
-
--- ---- what a run does not depend on
-
--- what the store reported does not matter once the script was read
-play_since : (setup : Setup) (script : Script) (store mid store' : StoreReport) (links : LinksReport)
-    (out out' err err' : SinkReport)
-    (patterns patterns' : PatternsReport) (forks forks' : ℕ) (ending : Ending)
-    → PlayEnds setup script (reports mid links out err patterns forks) (reports store' links out' err' patterns' forks')
-    ending
-    → PlayEnds setup script (reports store links out err patterns forks)
-    (reports store' links out' err' patterns' forks') ending
-play_since setup script store mid store' links out out' err err' patterns patterns' forks forks' Finished ends =
-    record { run = ends.run; before = ends.before; ran = ends.ran; wrote = ends.wrote }
-play_since setup script store mid store' links out out' err err' patterns patterns' forks forks' WriteFailed ends = (
-  ends.0,
-  elim ends.1 [
-    | inl some ↦ inl (record { run = some.run; ran = some.ran })
-    | inr all ↦ inr (record { run = all.run; before = all.before; ran = all.ran; wrote = all.wrote })
-  ],
-)
-play_since setup script store mid store' links out out' err err' patterns patterns' forks forks' OutOfMemory ends = (
-  ends.0,
-  elim ends.1 [
-    | inl some ↦ inl (record { run = some.run; ran = some.ran })
-    | inr all ↦ inr (record { run = all.run; before = all.before; ran = all.ran; wrote = all.wrote })
-  ],
-)
-play_since setup script store mid store' links out out' err err' patterns patterns' forks forks' (ConfigRefused refusal)
-    ends =
-    absurd ends
-play_since setup script store mid store' links out out' err err' patterns patterns' forks forks' (Unread unread) ends =
-    absurd ends
-play_since setup script store mid store' links out out' err err' patterns patterns' forks forks' (OverLimit over limit)
-    ends =
-    absurd ends
-play_since setup script store mid store' links out out' err err' patterns patterns' forks forks' (BytesLeft count)
-    ends =
-    absurd ends
-play_since setup script store mid store' links out out' err err' patterns patterns' forks forks' LinksFailed ends =
-    absurd ends
-play_since setup script store mid store' links out out' err err' patterns patterns' forks forks' (ScriptRefused line)
-    ends =
-    absurd ends
+use Rattle.command_files.specs.Scripts.{RefusesScript}
 
 -- the configuration was accepted, and then the script was refused or played
 pub replay_ended : (config script : List ℕ) (setup : Setup) (store mid store' : StoreReport) (links : LinksReport)
     (out out' err err' : SinkReport)
     (patterns between patterns' : PatternsReport) (forks forks' : ℕ) (Unasked : Type 0) (ending : Ending)
-    → SetsUp (store.held config) setup
-    → mid.faults ≡ store.faults → store.taken ≤ mid.taken → between ≡ patterns → mid.held ≡ store.held
+    → SetsUp config store mid setup → between ≡ patterns
     → ReadsBoth config script store.reads store'.reads ending
     → ScriptEnds setup script (reports mid links out err between forks)
     (reports store' links out' err' patterns' forks') ending
     → ReplayEnds config script (reports store links out err patterns forks)
     (reports store' links out' err' patterns' forks') Unasked ending
 replay_ended config script setup store mid store' links out out' err err' patterns between patterns' forks forks'
-    Unasked ending sets faults taken same held reads ends =
-    let moved : ScriptEnds setup script (reports mid links out err patterns forks)
-    (reports store' links out' err' patterns' forks') ending
-    = subst
-    (λ state. ScriptEnds setup script (reports mid links out err state forks)
-    (reports store' links out' err' patterns' forks') ending)
-    same ends in
+    Unasked ending sets same reads ends =
     inr (
       setup,
+      mid,
       sets,
       reads,
-      elim moved [
-        | inl refused ↦
-            inl (script_refused_since script store mid store' ending faults taken held refused.0, refused.1, refused.2)
-        | inr played ↦ inr (
-          played.0,
-          subst (λ (files : List ℕ → Content). IsScript (files script) played.0) held played.1,
-          play_since setup played.0 store mid store' links out out' err err' patterns patterns' forks forks' ending
-              played.2,
-        )
-      ],
+      subst
+          (λ state. ScriptEnds setup script (reports mid links out err state forks)
+          (reports store' links out' err' patterns' forks') ending)
+          same ends,
     )
 
 -- ---- how a run does not end
@@ -174,9 +120,11 @@ pub replay_read_rose : (config script : List ℕ) (old new : Reports) (Unasked :
     → status_of ending ≡ ReadFault → Rose old.store.faults new.store.faults
 replay_read_rose config script old new Unasked ending ends e = elim ends [
   | inl refused ↦ refused_rose config old.store new.store old.patterns new.patterns ending refused.0 e
-  | inr accepted ↦ elim accepted.3 [
-    | inl refused ↦ script_rose script old.store new.store ending refused.0 e
-    | inr played ↦ absurd (play_not_read accepted.0 played.0 old new ending played.2 e)
+  | inr accepted ↦ elim accepted.4 [
+    | inl refused ↦
+        rose_since config accepted.2.0 old.store accepted.1 new.store.faults accepted.2.1
+        (script_rose script accepted.1 new.store ending refused.0 e)
+    | inr played ↦ absurd (play_not_read accepted.0 played.0 (record old { store = accepted.1 }) new ending played.2 e)
   ]
 ]
 
@@ -185,9 +133,9 @@ pub replay_sink_rose : (config script : List ℕ) (old new : Reports) (Unasked :
     → status_of ending ≡ SinkFault → Rose old.out.faults new.out.faults
 replay_sink_rose config script old new Unasked ending ends e = elim ends [
   | inl refused ↦ absurd (refused_not_written config old.store new.store old.patterns new.patterns ending refused.0 e)
-  | inr accepted ↦ elim accepted.3 [
-    | inl refused ↦ absurd (script_not_written script old.store new.store ending refused.0 e)
-    | inr played ↦ play_wrote accepted.0 played.0 old new ending played.2 e
+  | inr accepted ↦ elim accepted.4 [
+    | inl refused ↦ absurd (script_not_written script accepted.1 new.store ending refused.0 e)
+    | inr played ↦ play_wrote accepted.0 played.0 (record old { store = accepted.1 }) new ending played.2 e
   ]
 ]
 
@@ -196,9 +144,9 @@ pub replay_not_linked : (config script : List ℕ) (old new : Reports) (Unasked 
     → status_of ending ≡ LinkFault → ⊥
 replay_not_linked config script old new Unasked ending ends e = elim ends [
   | inl refused ↦ refused_not_linked config old.store new.store old.patterns new.patterns ending refused.0 e
-  | inr accepted ↦ elim accepted.3 [
-    | inl refused ↦ script_not_linked script old.store new.store ending refused.0 e
-    | inr played ↦ play_not_linked accepted.0 played.0 old new ending played.2 e
+  | inr accepted ↦ elim accepted.4 [
+    | inl refused ↦ script_not_linked script accepted.1 new.store ending refused.0 e
+    | inr played ↦ play_not_linked accepted.0 played.0 (record old { store = accepted.1 }) new ending played.2 e
   ]
 ]
 
@@ -235,10 +183,14 @@ replay_complete config script old new Unasked text lines read played ending ends
           for_memory ending
           (refused_for_memory config text read old.store new.store old.patterns new.patterns ending holds
           is fits reads_still still refused.0)
-      | inr accepted ↦ elim accepted.3 [
+      | inr accepted ↦ elim accepted.4 [
         | inl refused ↦
-            for_memory ending (script_refused_for_memory script lines played old.store new.store ending holds_lines
-            is_script lines_fit reads_still refused.0)
-        | inr ran ↦ play_completes accepted.0 ran.0 old new ending ran.2 out_still
+            for_memory ending
+            (script_refused_for_memory script lines played accepted.1 new.store ending
+            (held_since config accepted.2.0 script lines old.store accepted.1 accepted.2.1 holds_lines) is_script
+            lines_fit
+            (still_since config accepted.2.0 old.store accepted.1 new.store.faults accepted.2.1 reads_still)
+            refused.0)
+        | inr ran ↦ play_completes accepted.0 ran.0 (record old { store = accepted.1 }) new ending ran.2 out_still
       ]
     ]

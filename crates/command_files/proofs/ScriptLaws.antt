@@ -1,31 +1,35 @@
 -- What is known of a script, from what its file and its text say.
-use Rattle.std.proofs.Common.{◌≡◌, ℕ, ◌≤◌, List, [], ◌∷◌, length, refl, subst, sym}
+use Rattle.std.proofs.Common.{◌≡◌, ℕ, ◌≤◌, List, [], ◌∷◌, length, refl, inr}
 use Rattle.std.specs.Prelude.{Option, Result, Ok, Err, IfErr}
 use Rattle.command_setup.proofs.CommandIoEndingLaws.{reported_of}
 use Rattle.command_setup.specs.command_io.Endings.{status_of}
-use Rattle.command_setup.specs.command_io.Files.{ForHeld, ReadMore, good_read}
+use Rattle.command_setup.specs.command_io.Files.{ForGiven, ReadMore, good_read}
 use Rattle.command_setup.specs.command_io.declared.ending.Ending.{Ending}
 use Rattle.command_setup.specs.command_io.declared.ending.Ending.TheVariants.{Finished, ConfigRefused, Unread, OverLimit}
 use Rattle.command_setup.specs.command_io.declared.ending.Ending.TheVariants.{BytesLeft, WriteFailed, LinksFailed}
 use Rattle.command_setup.specs.command_io.declared.ending.Ending.TheVariants.{ScriptRefused, OutOfMemory}
 use Rattle.command_setup.specs.command_io.declared.limits.TheConstants.{FILE_LIMIT}
 use Rattle.command_setup.specs.command_io.declared.status.Status.TheVariants.{ReadFault}
-use Rattle.command_files.proofs.OtherLaws.{file_refused_for_memory, file_refused_since, file_rose}
+use Rattle.command_files.proofs.OtherLaws.{file_refused_for_memory, file_rose}
 use Rattle.command_files.specs.Files.{IsFile, OtherReads, ReadsOther}
 use Rattle.ports.specs.Counts.{IsStill, Rose}
-use Rattle.ports.specs.Reading.{Content, IsHeld, StoreReport}
+use Rattle.ports.specs.Reading.{IsHeld, StoreReport}
 use Rattle.ports.specs.declared.script.Script.{Script}
 use Rattle.ports.specs.declared.store.StoreRead.{StoreRead}
 use Rattle.script_text.specs.Scripts.{script_of}
-use Rattle.command_files.specs.Scripts.{RefusesScript, RefusesText}
+use Rattle.command_files.specs.Scripts.{IsScript, RefusesScript, RefusesText}
 
 -- a fact of the bytes that were read, as one of the file
-pub for_file : (content : Content) (bytes : List ℕ) (P : List ℕ → Type 0) → IsFile content bytes → P bytes
-    → ForHeld content (λ held. (length held ≤ FILE_LIMIT) × P held)
-for_file content bytes P is fact = λ held reported. let file = is held reported in
-    (file.0, file.1, (rw file.2.0 file.2.1, subst P (sym file.2.0) fact))
+pub for_file : (name : List ℕ) (old new : StoreReport) (bytes : List ℕ) (P : List ℕ → Type 0)
+    → IsFile name old new bytes → P bytes
+    → ForGiven name old new (λ text. (length text ≤ FILE_LIMIT) × P text)
+for_file name old new bytes P is fact = (bytes, is.0, (is.1, fact))
 
-pub text_refused : (name bytes : List ℕ) (old new : StoreReport) (ending : Ending) → IsFile (old.held name) bytes
+pub is_script : (name : List ℕ) (old new : StoreReport) (bytes : List ℕ) (script : Script)
+    → IsFile name old new bytes → script_of bytes ≡ Ok script → IsScript name old new script
+is_script name old new bytes script is read = (bytes, is.0, (is.1, read))
+
+pub text_refused : (name bytes : List ℕ) (old new : StoreReport) (ending : Ending) → IsFile name old new bytes
     → RefusesText bytes ending
     → RefusesScript name old new ending
 text_refused name bytes old new Finished is refuses = absurd refuses
@@ -36,8 +40,8 @@ text_refused name bytes old new (BytesLeft count) is refuses = absurd refuses
 text_refused name bytes old new WriteFailed is refuses = absurd refuses
 text_refused name bytes old new LinksFailed is refuses = absurd refuses
 text_refused name bytes old new (ScriptRefused line) is refuses =
-    for_file (old.held name) bytes (λ text. script_of text ≡ Err line) is refuses
-text_refused name bytes old new OutOfMemory is refuses = tt
+    for_file name old new bytes (λ text. script_of text ≡ Err line) is refuses
+text_refused name bytes old new OutOfMemory is refuses = inr (bytes, is.0)
 
 refused_read : (old new : Option (List StoreRead)) (name text : List ℕ) (ending : Ending) → RefusesText text ending
     → ReadMore (good_read name ∷ []) old new
@@ -62,25 +66,6 @@ text_read old new name text (Ok links) refuses grew = grew
 text_read old new name text (Err ending) refuses grew = refused_read old new name text ending refuses grew
 
 -- ---- there is no script
-
-pub script_refused_since : (name : List ℕ) (old mid new : StoreReport) (ending : Ending) → mid.faults ≡ old.faults
-    → old.taken ≤ mid.taken
-    → mid.held ≡ old.held → RefusesScript name mid new ending → RefusesScript name old new ending
-script_refused_since name old mid new Finished same rises held refuses = absurd refuses
-script_refused_since name old mid new (ConfigRefused refusal) same rises held refuses = absurd refuses
-script_refused_since name old mid new (Unread unread) same rises held refuses =
-    file_refused_since name old mid new (Unread unread) same rises held refuses
-script_refused_since name old mid new (OverLimit over limit) same rises held refuses =
-    file_refused_since name old mid new (OverLimit over limit) same rises held refuses
-script_refused_since name old mid new (BytesLeft count) same rises held refuses = absurd refuses
-script_refused_since name old mid new WriteFailed same rises held refuses = absurd refuses
-script_refused_since name old mid new LinksFailed same rises held refuses = absurd refuses
-script_refused_since name old mid new (ScriptRefused line) same rises held refuses =
-    subst
-    (λ (files : List ℕ → Content).
-    ForHeld (files name) (λ text. (length text ≤ FILE_LIMIT) × (script_of text ≡ Err line)))
-    held refuses
-script_refused_since name old mid new OutOfMemory same rises held refuses = tt
 
 pub script_rose : (name : List ℕ) (old new : StoreReport) (ending : Ending) → RefusesScript name old new ending
     → status_of ending ≡ ReadFault
@@ -110,5 +95,5 @@ script_refused_for_memory name text script old new (BytesLeft count) holds is fi
 script_refused_for_memory name text script old new WriteFailed holds is fits still refuses = absurd refuses
 script_refused_for_memory name text script old new LinksFailed holds is fits still refuses = absurd refuses
 script_refused_for_memory name text script old new (ScriptRefused line) holds is fits still refuses =
-    let refused : script_of text ≡ Err line = (reported_of (old.held name) text _ holds refuses).1 in cc
+    let refused : script_of text ≡ Err line = (reported_of name old new text _ holds refuses).1 in cc
 script_refused_for_memory name text script old new OutOfMemory holds is fits still refuses = refl

@@ -22,7 +22,7 @@ use Rattle.command_setup.specs.hub_run.declared.setup.Setup.{Setup}
 use Rattle.ports.specs.Counts.{IsStill, Rose}
 use Rattle.ports.specs.Pieces.{feed_script}
 use Rattle.ports.specs.Playing.{IsScriptedRun}
-use Rattle.ports.specs.Reading.{IsHeld}
+use Rattle.ports.specs.Reading.{IsHeld, StoreReport}
 use Rattle.ports.specs.Writing.{Got, GotPrefix, SinkReport}
 use Rattle.ports.specs.declared.entry.Entry.{Entry}
 use Rattle.ports.specs.declared.links.TheConstants.{PIECE_LIMIT}
@@ -69,16 +69,18 @@ BytesEnd setup bytes old new _ = ⊥
 abbrev pub FileEnds : Setup → List ℕ → Reports → Reports → Ending → Type 0
 FileEnds setup file old new ending =
     (RefusesFile file old.store new.store ending × (new.patterns ≡ old.patterns) × (new.err ≡ old.err) × IsIdle old new)
-    ⊎ ((bytes : List ℕ) × IsFile (old.store.held file) bytes × BytesEnd setup bytes old new ending)
+    ⊎ ((bytes : List ℕ) × IsFile file old.store new.store bytes × BytesEnd setup bytes old new ending)
 
 -- The configuration was refused, nothing was run and the file was not read; or it was accepted, and both files were
--- read. The error stream is as it was before the line of the ending. `Unasked` is that no pattern was asked for.
+-- read, one after the other: the store reported `mid` between the two reads. The error stream is as it was before the
+-- line of the ending. `Unasked` is that no pattern was asked for.
 abbrev pub FeedEnds : List ℕ → List ℕ → Reports → Reports → Type 0 → Ending → Type 0
 FeedEnds config file old new Unasked ending =
     (RefusesSetup config old.store new.store old.patterns new.patterns ending × (new.err ≡ old.err) × IsIdle old new
     × StopsAtConfig config old.store.reads new.store.reads Unasked ending)
-    ⊎ ((setup : Setup) × SetsUp (old.store.held config) setup
-    × ReadsBoth config file old.store.reads new.store.reads ending × FileEnds setup file old new ending)
+    ⊎ ((setup : Setup) × (mid : StoreReport) × SetsUp config old.store mid setup
+    × ReadsBoth config file old.store.reads new.store.reads ending
+    × FileEnds setup file (record old { store = mid }) new ending)
 
 -- the status of a call that met no fault and no refusal, by the bytes after the last whole frame
 abbrev pub HasFed : List ℕ → Status → Type 0

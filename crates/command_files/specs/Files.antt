@@ -1,25 +1,28 @@
 -- What a command reads: its configuration, and then its other file.
 use Rattle.std.specs.Prelude.{◌≡◌, ℕ, ◌+◌, ◌≤◌, List, [], ◌∷◌, length, Option, Result, Ok, Err}
 use Rattle.command_setup.specs.command_io.Endings.{HasNoConfig, IsReadOnce, ReadsFiles}
-use Rattle.command_setup.specs.command_io.Files.{ForHeld, ReadMore, good_read}
+use Rattle.command_setup.specs.command_io.Files.{Gives, GivesNone, ReadMore, good_read}
 use Rattle.command_setup.specs.command_io.declared.ending.Ending.{Ending}
 use Rattle.command_setup.specs.command_io.declared.ending.Ending.TheVariants.{Finished, Unread, OverLimit, BytesLeft, WriteFailed}
 use Rattle.command_setup.specs.command_io.declared.ending.Ending.TheVariants.{OutOfMemory}
 use Rattle.command_setup.specs.command_io.declared.limits.TheConstants.{FILE_LIMIT}
 use Rattle.ports.specs.Counts.{Rose, RoseBy}
-use Rattle.ports.specs.Reading.{Content, IsOverLimit, StoreReport}
+use Rattle.ports.specs.Reading.{IsOverLimit, StoreReport}
 use Rattle.ports.specs.declared.store.StoreRead.{StoreRead}
 
--- the file has these bytes, and is within its limit
-abbrev pub IsFile : Content → List ℕ → Type 0
-IsFile content bytes = ForHeld content (λ held. (held ≡ bytes) × (length bytes ≤ FILE_LIMIT))
+-- a read of the file of the name gave these bytes, which are within its limit, from what the store reports before and
+-- after
+abbrev pub IsFile : List ℕ → StoreReport → StoreReport → List ℕ → Type 0
+IsFile name old new bytes = Gives name bytes old new × (length bytes ≤ FILE_LIMIT)
 
 -- why the other file, the one of the name, was not read; the ending has this name and its limit
 abbrev pub RefusesFile : List ℕ → StoreReport → StoreReport → Ending → Type 0
-RefusesFile name old new (Unread unread) = Rose old.faults new.faults × (unread.now ≡ name)
+RefusesFile name old new (Unread unread) =
+    Rose old.faults new.faults × (unread.now ≡ name) × GivesNone old new
 RefusesFile name old new (OverLimit over limit) = IsOverLimit (old.held name) FILE_LIMIT
     × RoseBy (FILE_LIMIT + 1) old.taken new.taken × (over.now ≡ name) × (limit ≡ FILE_LIMIT)
-RefusesFile name old new OutOfMemory = Unit {0}
+    × GivesNone old new
+RefusesFile name old new OutOfMemory = GivesNone old new
 RefusesFile name old new _ = ⊥
 
 -- the endings of a command whose server was run

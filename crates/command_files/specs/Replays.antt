@@ -15,7 +15,7 @@ use Rattle.command_setup.specs.hub_run.declared.fault.RunFault.TheVariants as ca
 use Rattle.command_setup.specs.hub_run.declared.setup.Setup.{Setup}
 use Rattle.script_text.specs.LinkLines.{link_lines}
 use Rattle.ports.specs.Counts.{IsStill, Rose}
-use Rattle.ports.specs.Reading.{IsHeld}
+use Rattle.ports.specs.Reading.{IsHeld, StoreReport}
 use Rattle.ports.specs.Writing.{Got, GotPrefix, SinkReport}
 use Rattle.ports.specs.declared.entry.Entry.{Entry}
 use Rattle.ports.specs.declared.script.Script.{Script}
@@ -59,16 +59,17 @@ PlayEnds setup script old new _ = ⊥
 abbrev pub ScriptEnds : Setup → List ℕ → Reports → Reports → Ending → Type 0
 ScriptEnds setup name old new ending =
     (RefusesScript name old.store new.store ending × (new.patterns ≡ old.patterns) × IsIdle old new)
-    ⊎ ((script : Script) × IsScript (old.store.held name) script × PlayEnds setup script old new ending)
+    ⊎ ((script : Script) × IsScript name old.store new.store script × PlayEnds setup script old new ending)
 
 -- The configuration was refused, nothing was run and the script was not read; or it was accepted, and both files were
--- read. `Unasked` is that no pattern was asked for.
+-- read, one after the other: the store reported `mid` between the two reads. `Unasked` is that no pattern was asked for.
 abbrev pub ReplayEnds : List ℕ → List ℕ → Reports → Reports → Type 0 → Ending → Type 0
 ReplayEnds config script old new Unasked ending =
     (RefusesSetup config old.store new.store old.patterns new.patterns ending × IsIdle old new
     × StopsAtConfig config old.store.reads new.store.reads Unasked ending)
-    ⊎ ((setup : Setup) × SetsUp (old.store.held config) setup
-    × ReadsBoth config script old.store.reads new.store.reads ending × ScriptEnds setup script old new ending)
+    ⊎ ((setup : Setup) × (mid : StoreReport) × SetsUp config old.store mid setup
+    × ReadsBoth config script old.store.reads new.store.reads ending
+    × ScriptEnds setup script (record old { store = mid }) new ending)
 
 -- With files within their limits, a configuration, a script, no fault and no pattern refused, the script is played to
 -- its end and all is written, or memory runs out.

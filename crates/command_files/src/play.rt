@@ -31,7 +31,7 @@ pub(crate) fn fetch_script<'a, S: Store>(
     store: &mut S,
 ) -> Result<ScriptLinks, Ending<'a>>
     ensures script { IfOk result
-        (λ links. IsScript ((S.report store.old).held name.now) links.script) }
+        (λ links. IsScript name.now (S.report store.old) (S.report store.new) links.script) }
     ensures begins { IfOk result (λ links. links.log ≡ []) }
     ensures refused { IfErr result
         (RefusesScript name.now (S.report store.old) (S.report store.new)) }

@@ -12,7 +12,7 @@ pub fn read_other<'a, S: Store>(
     name: &'a Text,
     store: &mut S,
 ) -> Result<Blob, Ending<'a>>
-    ensures file { IfOk result (IsFile ((S.report store.old).held name.now)) }
+    ensures file { IfOk result (IsFile name.now (S.report store.old) (S.report store.new)) }
     ensures refused { IfErr result
         (RefusesFile name.now (S.report store.old) (S.report store.new)) }
     ensures reads { ReadsOther name.now (S.report store.old).reads (S.report store.new).reads

@@ -1,15 +1,12 @@
 -- A pattern that was refused, by its number.
-use Rattle.std.proofs.Common.{◌≡◌, ℕ, ◌<◌, List, [], ◌∷◌, ◌++◌, length, refl, ap, ◌∙◌, append-nil}
-use Rattle.std.specs.Prelude.{Option, Some, None, slice_index_or}
+use Rattle.std.proofs.Common.{◌≡◌, ℕ, ◌<◌, List, [], ◌∷◌, ◌++◌, length, ap, ◌∙◌}
+use Rattle.std.specs.Prelude.{Option, slice_index_or}
 use Rattle.std.specs.Option.{option_map}
 use Rattle.std.proofs.lemmas.Option.{slice_get-get_or}
 use Rattle.hub_meaning.specs.Verdicts.{PatternsReport}
 use Rattle.ports.specs.Counts.{Rose}
 use Rattle.command_io.specs.Building.{IsRefusedPattern}
-
-nothing_added : (texts : Option (List (List ℕ))) → option_map (λ texts. texts ++ []) texts ≡ texts
-nothing_added None = refl
-nothing_added (Some texts) = ap Some (append-nil texts)
+use Rattle.command_io.proofs.Sinks.{nothing_appended}
 
 pub refused_pattern : (texts : List (List ℕ)) (number : ℕ) (old new : PatternsReport) → number < length texts
     → Rose old.refusals new.refusals
@@ -28,4 +25,4 @@ pub same_report : (old new : PatternsReport) → new.refusals ≡ old.refusals
 same_report old new counted reported =
     ap (λ (n : ℕ). record { refusals = n; refused = new.refused }) counted
     ∙ ap (λ (texts : Option (List (List ℕ))). record { refusals = old.refusals; refused = texts })
-    (reported ∙ nothing_added old.refused)
+    (reported ∙ nothing_appended old.refused)

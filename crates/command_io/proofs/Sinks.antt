@@ -14,6 +14,10 @@ pub got_nothing : (old : Option (List ℕ)) → Got old [] old
 got_nothing None = refl
 got_nothing (Some text) = ap Some (sym (append-nil text))
 
+pub nothing_appended : {X : Type 0} (old : Option (List X)) → option_map (λ texts. texts ++ []) old ≡ old
+nothing_appended None = refl
+nothing_appended (Some texts) = ap Some (append-nil texts)
+
 pub appended_twice : {X : Type 0} (old : Option (List X)) (xs ys : List X)
     → option_map (λ texts. texts ++ ys) (option_map (λ texts. texts ++ xs) old)
     ≡ option_map (λ texts. texts ++ (xs ++ ys)) old

@@ -1,7 +1,7 @@
 -- What is known of a configuration that was fetched from a store, or could not be.
 use Rattle.std.specs.Prelude.{ℕ, List, [], ◌∷◌, Result, Ok, Err}
 use Rattle.std.specs.Borrow.{Bor}
-use Rattle.ports.specs.Reading.{Content}
+use Rattle.ports.specs.Reading.{StoreReport}
 use Rattle.ports.specs.declared.store.StoreRead.{StoreRead}
 use Rattle.sexp_config.specs.declared.config.Config.{Config}
 use Rattle.command_io.specs.declared.ending.ConfigRefusal.TheVariants as refusals
@@ -15,7 +15,7 @@ use Rattle.command_io.specs.declared.read.FileFault.{FileFault}
 use Rattle.command_io.specs.declared.read.FileFault.TheVariants as file
 use Rattle.command_io.specs.declared.limits.TheConstants.{CONFIG_LIMIT}
 use Rattle.command_io.specs.Configs.{ForRefused, IsRefused}
-use Rattle.command_io.specs.Files.{IsFileFault, good_read, reads_of_fault}
+use Rattle.command_io.specs.Files.{Gives, IsFileFault, good_read, reads_of_fault}
 
 -- how a command ends whose file was not read, or whose configuration was not
 abbrev pub ending_of_file : Bor (List ℕ) → ℕ → FileFault → Ending
@@ -37,12 +37,11 @@ IsTextFault text (fetch.File fault) = ⊥
 IsTextFault text (fetch.Config (Refused place why)) = IsRefused text place why
 IsTextFault text (fetch.Config Memory) = Unit {0}
 
--- Why there is no configuration. `faults` and `taken` are the counts of the store, before and after.
-abbrev pub IsFetchFault : Content → ℕ → ℕ → ℕ → ℕ → FetchFault → Type 0
-IsFetchFault content faults faults' taken taken' (fetch.File fault) =
-    IsFileFault content CONFIG_LIMIT faults faults' taken taken' fault
-IsFetchFault content faults faults' taken taken' (fetch.Config (Refused place why)) = ForRefused content place why
-IsFetchFault content faults faults' taken taken' (fetch.Config Memory) = Unit {0}
+-- why there is no configuration in the file of the name, from what the store reports before and after
+abbrev pub IsFetchFault : List ℕ → StoreReport → StoreReport → FetchFault → Type 0
+IsFetchFault name old new (fetch.File fault) = IsFileFault name CONFIG_LIMIT old new fault
+IsFetchFault name old new (fetch.Config (Refused place why)) = ForRefused name old new place why
+IsFetchFault name old new (fetch.Config Memory) = (text : List ℕ) × Gives name text old new
 
 -- the reads that are made for a configuration
 abbrev pub fetch_reads : List ℕ → Result Config FetchFault → List StoreRead

@@ -1,22 +1,40 @@
 -- What is known of a file that was read by its name, or could not be.
-use Rattle.std.specs.Prelude.{◌≡◌, ℕ, ◌+◌, true, false, List, [], ◌∷◌, ◌++◌, Option, Some, Result, Ok, Err}
+use Rattle.std.specs.Prelude.{◌≡◌, ℕ, ◌+◌, ◌≤◌, ◌⊎◌, true, false, List, [], ◌∷◌, ◌++◌, Option, Some, Result, Ok, Err}
 use Rattle.std.specs.Option.{ForSome, option_map}
 use Rattle.ports.specs.Counts.{Rose, RoseBy}
-use Rattle.ports.specs.Reading.{Content, IsOverLimit}
+use Rattle.ports.specs.Reading.{IsOverLimit, StoreReport}
 use Rattle.ports.specs.declared.store.StoreRead.{StoreRead}
 use Rattle.command_io.specs.declared.read.FileFault.{FileFault}
 use Rattle.command_io.specs.declared.read.FileFault.TheVariants.{Unread, TooLong, Memory}
 
--- where a store reports its contents, a file of the name has bytes of which this is true
-abbrev pub ForHeld : Content → (List ℕ → Type 0) → Type 0
-ForHeld content P = ForSome content (λ held. (bytes : List ℕ) × (held ≡ Some bytes) × P bytes)
+-- One read of the file of the name gave this text, from what the store reports before and after. The text is what the
+-- store holds, if it reports that. It alone was added to the files given, if these are reported.
+pub record Gives (name text : List ℕ) (old new : StoreReport) : Type 0 where
+  pub held : ForSome (old.held name) (λ held. held ≡ Some text)
+  pub gave : new.gave ≡ option_map (λ gave. gave ++ (name, text) ∷ []) old.gave
+  -- the store holds what it held, and no read failed
+  pub same : new.held ≡ old.held
+  pub quiet : new.faults ≡ old.faults
+  pub taken : old.taken ≤ new.taken
 
--- Why a file was not read. `faults` and `taken` are the counts of the store, before and after.
-abbrev pub IsFileFault : Content → ℕ → ℕ → ℕ → ℕ → ℕ → FileFault → Type 0
-IsFileFault content limit faults faults' taken taken' Unread = Rose faults faults'
-IsFileFault content limit faults faults' taken taken' TooLong =
-    IsOverLimit content limit × RoseBy (limit + 1) taken taken'
-IsFileFault content limit faults faults' taken taken' Memory = Unit {0}
+-- one read of the file gave a text of which this is true
+abbrev pub ForGiven : List ℕ → StoreReport → StoreReport → (List ℕ → Type 0) → Type 0
+ForGiven name old new P = (text : List ℕ) × Gives name text old new × P text
+
+-- no read gave a text
+abbrev pub GivesNone : StoreReport → StoreReport → Type 0
+GivesNone old new = new.gave ≡ old.gave
+
+-- no read gave a text, or one did, of the file of the name
+abbrev pub MayGive : List ℕ → StoreReport → StoreReport → Type 0
+MayGive name old new = GivesNone old new ⊎ ((text : List ℕ) × Gives name text old new)
+
+-- why the file of the name was not read, from what the store reports before and after
+abbrev pub IsFileFault : List ℕ → ℕ → StoreReport → StoreReport → FileFault → Type 0
+IsFileFault name limit old new Unread = Rose old.faults new.faults × GivesNone old new
+IsFileFault name limit old new TooLong =
+    IsOverLimit (old.held name) limit × RoseBy (limit + 1) old.taken new.taken × GivesNone old new
+IsFileFault name limit old new Memory = GivesNone old new
 
 abbrev pub good_read : List ℕ → StoreRead
 good_read name = record { name = name; failed = false }

@@ -3,7 +3,7 @@ ghost use Rattle.ev_types.specs.Interval.{IsInterval};
 ghost use Rattle.stream_plan.specs.Ready.{plan_patterns};
 ghost use Rattle.command_io.specs.Configs.{ReadsAs};
 ghost use Rattle.command_io.specs.Fetches.{IsFetchFault, IsTextFault, ending_of_config, ending_of_fetch, fetch_reads};
-ghost use Rattle.command_io.specs.Files.{ForHeld, ReadMore};
+ghost use Rattle.command_io.specs.Files.{ForGiven, ReadMore};
 
 use crate::ending::{ConfigRefusal, Ending};
 use crate::limits::CONFIG_LIMIT;
@@ -53,13 +53,12 @@ pub fn fetch_config<S: Store>(
     store: &mut S,
 ) -> Result<Config, FetchFault>
     ensures config { IfOk result
-        (λ config. ForHeld ((S.report store.old).held name.now)
+        (λ config. ForGiven name.now (S.report store.old) (S.report store.new)
         (λ text. (length text ≤ CONFIG_LIMIT) × ReadsAs text config)) }
     ensures few { IfOk result (λ config. length (plan_patterns config.plan) ≤ CONFIG_LIMIT) }
     ensures interval { IfOk result (λ config. IsInterval config.expiry) }
-    ensures fault { IfErr result (λ fault. IsFetchFault ((S.report store.old).held name.now)
-        (S.report store.old).faults (S.report store.new).faults (S.report store.old).taken
-        (S.report store.new).taken fault) }
+    ensures fault { IfErr result
+        (IsFetchFault name.now (S.report store.old) (S.report store.new)) }
     ensures reads { ReadMore (fetch_reads name.now result) (S.report store.old).reads
         (S.report store.new).reads }
     ensures quiet { OnOk result ((S.report store.new).faults ≡ (S.report store.old).faults) }

@@ -1,5 +1,5 @@
 ghost use Rattle.std.specs.Prelude.{◌≡◌, ◌^◌, ◌<◌, ◌≤◌, IfErr, IfOk, OnOk, length};
-ghost use Rattle.command_io.specs.Files.{ForHeld, IsFileFault, ReadMore, reads_of};
+ghost use Rattle.command_io.specs.Files.{Gives, IsFileFault, ReadMore, reads_of};
 ghost use Rattle.command_io.specs.Fetches.{ending_of_file};
 
 use crate::ending::Ending;
@@ -31,6 +31,7 @@ impl FileFault {
 }
 
 /// Reads the file of the name, which may have at most `limit` bytes.
+#[tactic(auto, using(crate::proofs::FileLaws::gives, crate::proofs::FileLaws::gives_none))]
 pub fn read_file<S: Store>(
     alloc: Global,
     name: &Text,
@@ -38,12 +39,11 @@ pub fn read_file<S: Store>(
     store: &mut S,
 ) -> Result<Blob, FileFault>
     requires { limit < 2 ^ 63 }
-    ensures file { IfOk result (λ bytes. ForHeld ((S.report store.old).held name.now)
-        (λ held. (held ≡ bytes) × (length bytes ≤ limit))) }
+    ensures file { IfOk result (λ bytes. Gives name.now bytes (S.report store.old)
+        (S.report store.new)) }
     ensures within { IfOk result (λ bytes. length bytes ≤ limit) }
-    ensures fault { IfErr result (λ fault. IsFileFault ((S.report store.old).held name.now) limit
-        (S.report store.old).faults (S.report store.new).faults (S.report store.old).taken
-        (S.report store.new).taken fault) }
+    ensures fault { IfErr result
+        (IsFileFault name.now limit (S.report store.old) (S.report store.new)) }
     ensures reads { ReadMore (reads_of name.now result) (S.report store.old).reads
         (S.report store.new).reads }
     ensures quiet { OnOk result ((S.report store.new).faults ≡ (S.report store.old).faults) }

@@ -1,16 +1,17 @@
 -- The text of a configuration that was read.
 use Rattle.std.specs.Prelude.{◌≡◌, ◌≤◌, List, ℕ, [], ◌∷◌, length, Option}
 use Rattle.command_setup.specs.command_io.Endings.{IsReadOnce, ReadsFiles}
-use Rattle.command_setup.specs.command_io.Files.{ForHeld, ReadMore, good_read}
+use Rattle.command_setup.specs.command_io.Files.{Gives, ReadMore, good_read}
 use Rattle.command_setup.specs.command_io.declared.limits.TheConstants.{CONFIG_LIMIT}
-use Rattle.ports.specs.Reading.{Content}
+use Rattle.ports.specs.Reading.{StoreReport}
 use Rattle.ports.specs.declared.store.StoreRead.{StoreRead}
 use Rattle.command_record.specs.declared.ending.JournalEnding.{JournalEnding}
 use Rattle.command_record.specs.declared.ending.JournalEnding.TheVariants.{Shared}
 
--- the file has this text, which is within the limit of a configuration
-abbrev pub HasText : Content → List ℕ → Type 0
-HasText content text = ForHeld content (λ held. (held ≡ text) × (length text ≤ CONFIG_LIMIT))
+-- a read of the file of the name gave this text, which is within the limit of a configuration, from what the store
+-- reports before and after
+abbrev pub HasText : List ℕ → StoreReport → StoreReport → List ℕ → Type 0
+HasText name old new text = Gives name text old new × (length text ≤ CONFIG_LIMIT)
 
 -- The file was read once, and the read failed exactly where the ending says so. If memory ran out, it may not have been
 -- read.

@@ -15,7 +15,7 @@ use Rattle.disk_port.specs.Calls.{DiskReport}
 use Rattle.disk_port.specs.Past.{Past, text_of}
 use Rattle.ports.specs.Calls.{LinksReport}
 use Rattle.ports.specs.Counts.{IsStill}
-use Rattle.ports.specs.Reading.{Content, IsHeld}
+use Rattle.ports.specs.Reading.{IsHeld, StoreReport}
 use Rattle.turn_journal.specs.Beginning.{IsFree}
 use Rattle.command_record.specs.Endings.{HasNoConfig, IsComplete, Says, status_of}
 use Rattle.command_record.specs.Reading.{HasText, ReadsConfig}
@@ -32,18 +32,18 @@ pub record HasNoSetup (config : List ℕ) (old new : Reports) (disk disk' : Disk
   pub idle : IsIdle old new
   pub uncalled : disk' ≡ disk
 
--- the file is this configuration, whose patterns were built; so ends what was done with it
-pub record RecordsConfig (content : Content) (journal : List ℕ) (links links' : LinksReport) (disk disk' : DiskReport)
-    (old new : RunReport) (ending : JournalEnding) : Type 0 where
+-- the file of the first name is this configuration, whose patterns were built; so ends what was done with it
+pub record RecordsConfig (config journal : List ℕ) (store store' : StoreReport) (links links' : LinksReport)
+    (disk disk' : DiskReport) (old new : RunReport) (ending : JournalEnding) : Type 0 where
   pub text : List ℕ
   pub setup : Setup
-  pub has : HasText content text
+  pub has : HasText config store store' text
   pub sets : SetsUpText text setup
   pub ends : RecordingEnds journal text setup links links' disk disk' old new ending
 
 abbrev pub RecordEnds : List ℕ → List ℕ → Reports → Reports → DiskReport → DiskReport → JournalEnding → Type 0
 RecordEnds config journal old new disk disk' ending = HasNoSetup config old new disk disk' ending
-    ⊎ RecordsConfig (old.store.held config) journal old.links new.links disk disk' (run_report_of old old.out)
+    ⊎ RecordsConfig config journal old.store new.store old.links new.links disk disk' (run_report_of old old.out)
     (run_report_of new new.out) ending
 
 -- With a configuration within its limit, a file that holds no journal, no fault and no pattern refused, all turns are

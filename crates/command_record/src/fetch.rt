@@ -22,7 +22,8 @@ pub(crate) fn fetch_text<'a, S: Store, P: Patterns>(
     store: &mut S,
     patterns: &mut P,
 ) -> Result<(Blob, Setup), Ending<'a>>
-    ensures text { IfOk result (λ fetched. HasText ((S.report store.old).held name.now) fetched.0) }
+    ensures text { IfOk result (λ fetched. HasText name.now (S.report store.old)
+        (S.report store.new) fetched.0) }
     ensures within { IfOk result (λ fetched. length fetched.0 ≤ CONFIG_LIMIT) }
     ensures setup { IfOk result (λ fetched. SetsUpText fetched.0 fetched.1) }
     ensures interval { IfOk result (λ fetched. IsInterval fetched.1.expiry) }

@@ -27,7 +27,7 @@ use Rattle.command_serve.specs.Serves.{RanOn, ServeEnds, ending_of_run}
 -- ---- after a run
 
 pub served : (config : List ℕ) (turns : ℕ) (setup : Setup) (old new : Reporting) (ran : Result Hub RunFault)
-    → SetsUp (old.store.held config) setup → RanOn setup turns old new ran
+    → SetsUp config old.store new.store setup → RanOn setup turns old new ran
     → (ran ≡ Err Links → Rose old.links.faults new.links.faults) → (ran ≡ Err Sink → Rose old.out.faults new.out.faults)
     → (ran ≢ Err Links → new.links.faults ≡ old.links.faults) → (ran ≢ Err Sink → new.out.faults ≡ old.out.faults)
     → ServeEnds config turns old new (ending_of_run ran)

@@ -38,7 +38,7 @@ RunEnds setup count start patterns patterns' forks forks' out out' ending =
 abbrev pub LoadEnds : List ℕ → ℕ → ℕ → Reports → Reports → Ending → Type 0
 LoadEnds config count start old new ending =
     (RefusesSetup config old.store new.store old.patterns new.patterns ending × IsIdle old new)
-    ⊎ ((setup : Setup) × SetsUp (old.store.held config) setup
+    ⊎ ((setup : Setup) × SetsUp config old.store new.store setup
     × RunEnds setup count start old.patterns new.patterns old.forks new.forks old.out new.out ending)
 
 -- with a configuration within its limit, no fault and no pattern refused, the load is played and its summary written,

@@ -35,16 +35,16 @@ RanOn setup turns old new result =
 -- called.
 abbrev pub ServeEnds : List ℕ → ℕ → Reports → Reports → Ending → Type 0
 ServeEnds config turns old new Finished =
-    (setup : Setup) × SetsUp (old.store.held config) setup × ((hub : Hub) × RanOn setup turns old new (Ok hub))
+    (setup : Setup) × SetsUp config old.store new.store setup × ((hub : Hub) × RanOn setup turns old new (Ok hub))
 ServeEnds config turns old new LinksFailed =
-    (setup : Setup) × SetsUp (old.store.held config) setup × RanOn setup turns old new (Err Links)
+    (setup : Setup) × SetsUp config old.store new.store setup × RanOn setup turns old new (Err Links)
     × Rose old.links.faults new.links.faults
 ServeEnds config turns old new WriteFailed =
-    (setup : Setup) × SetsUp (old.store.held config) setup × RanOn setup turns old new (Err Sink)
+    (setup : Setup) × SetsUp config old.store new.store setup × RanOn setup turns old new (Err Sink)
     × Rose old.out.faults new.out.faults
 ServeEnds config turns old new OutOfMemory =
     (RefusesSetup config old.store new.store old.patterns new.patterns OutOfMemory × IsIdle old new)
-    ⊎ ((setup : Setup) × SetsUp (old.store.held config) setup × RanOn setup turns old new (Err Memory)
+    ⊎ ((setup : Setup) × SetsUp config old.store new.store setup × RanOn setup turns old new (Err Memory)
     × (new.links.faults ≡ old.links.faults) × (new.out.faults ≡ old.out.faults))
 ServeEnds config turns old new ending =
     RefusesSetup config old.store new.store old.patterns new.patterns ending × IsIdle old new

@@ -5,7 +5,7 @@ use ev_types::{Memory, Text};
 use std::alloc::Global;
 
 /// What a load came to.
-#[derive(Clone, Copy, Debug, PartialEq, Eq)]
+#[derive(Clone, Copy, PartialEq, Eq)]
 pub(crate) struct Summary {
     /// The events that were sent.
     pub(crate) events: u64,

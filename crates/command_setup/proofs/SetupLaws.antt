@@ -1,5 +1,5 @@
 -- What a command knows that has no configuration.
-use Rattle.std.proofs.Common.{◌≡◌, ℕ, ◌≤◌, List, length, refl, arith}
+use Rattle.std.proofs.Common.{◌≡◌, ℕ, ◌≤◌, List, length, refl, inl, inr, arith}
 use Rattle.std.specs.Borrow.{Bor}
 use Rattle.hub_run.specs.hub_meaning.Verdicts.{PatternsReport}
 use Rattle.ports.specs.Counts.{IsStill, Rose}
@@ -24,13 +24,14 @@ use Rattle.command_io.specs.Accepting.{RefusesSetup}
 pub refuses_fetch : (name : List ℕ) (shown : Bor (List ℕ)) (store store' : StoreReport) (patterns : PatternsReport)
     (fault : FetchFault)
     → shown.now ≡ name
-    → IsFetchFault (store.held name) store.faults store'.faults store.taken store'.taken fault
+    → IsFetchFault name store store' fault
     → RefusesSetup name store store' patterns patterns (ending_of_fetch shown fault)
 refuses_fetch name shown store store' patterns (fetch.Config (Refused place why)) is cause = (cause, refl)
-refuses_fetch name shown store store' patterns (fetch.File file.Unread) is cause = (cause, refl, is)
-refuses_fetch name shown store store' patterns (fetch.File file.TooLong) is cause = (cause.0, cause.1, refl, is, refl)
-refuses_fetch name shown store store' patterns (fetch.File file.Memory) is cause = refl
-refuses_fetch name shown store store' patterns (fetch.Config Memory) is cause = refl
+refuses_fetch name shown store store' patterns (fetch.File file.Unread) is cause = (cause.0, refl, is, cause.1)
+refuses_fetch name shown store store' patterns (fetch.File file.TooLong) is cause =
+    (cause.0, cause.1, refl, is, refl, cause.2)
+refuses_fetch name shown store store' patterns (fetch.File file.Memory) is cause = (refl, inl cause)
+refuses_fetch name shown store store' patterns (fetch.Config Memory) is cause = (refl, inr cause)
 
 -- ---- how a command does not end that has no configuration
 
@@ -99,7 +100,7 @@ refused_for_memory name text read store store' patterns patterns' Finished holds
     absurd refuses
 refused_for_memory name text read store store' patterns patterns' (ConfigRefused refusal) holds is fits reads_still
     still refuses =
-    absurd (config_not_refused (store.held name) text read refusal patterns patterns' holds is still refuses)
+    absurd (config_not_refused name store store' text read refusal patterns patterns' holds is still refuses)
 refused_for_memory name text read store store' patterns patterns' (Unread unread) holds is fits reads_still still
     refuses =
     absurd (omega (arith, refuses.0, reads_still.0, reads_still.1))

@@ -4,7 +4,7 @@ use Rattle.std.specs.Fmt.{decimal}
 use Rattle.hub_run.specs.hub_meaning.Verdicts.{PatternsReport}
 use Rattle.hub_run.specs.Runs.{RunReport, run_report}
 use Rattle.hub_run.specs.declared.setup.Setup.{Setup}
-use Rattle.ports.specs.Reading.{Content}
+use Rattle.ports.specs.Reading.{StoreReport}
 use Rattle.command_io.specs.sexp_config.declared.config.Config.{Config}
 use Rattle.stream_plan.specs.Ready.{plan_patterns}
 use Rattle.command_io.specs.Building.{AreBuilt, IsRefusedPattern}
@@ -23,9 +23,11 @@ address_text host port = host ++ (codes ":" ++ decimal port)
 abbrev pub setup_of : Config → Setup
 setup_of config = record { address = address_text config.host config.port; plan = config.plan; expiry = config.expiry }
 
--- the file is a configuration whose patterns were built, and this is what its server is run with
-abbrev pub SetsUp : Content → Setup → Type 0
-SetsUp content setup = ForConfig content (λ config. AreBuilt config.plan × (setup ≡ setup_of config))
+-- A read of the file of the name gave a configuration whose patterns were built, and this is what its server is run
+-- with. The reports are those of the store before and after.
+abbrev pub SetsUp : List ℕ → StoreReport → StoreReport → Setup → Type 0
+SetsUp name store store' setup =
+    ForConfig name store store' (λ config. AreBuilt config.plan × (setup ≡ setup_of config))
 
 -- the same of a text
 abbrev pub SetsUpText : List ℕ → Setup → Type 0

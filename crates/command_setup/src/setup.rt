@@ -24,7 +24,8 @@ pub fn fetch_setup<'a, S: Store, P: Patterns>(
     store: &mut S,
     patterns: &mut P,
 ) -> Result<Setup, Ending<'a>>
-    ensures setup { IfOk result (λ setup. SetsUp ((S.report store.old).held name.now) setup) }
+    ensures setup { IfOk result
+        (SetsUp name.now (S.report store.old) (S.report store.new)) }
     ensures interval { IfOk result (λ setup. IsInterval setup.expiry) }
     ensures fault { IfErr result (RefusesSetup name.now (S.report store.old) (S.report store.new)
         (P.report patterns.old) (P.report patterns.new)) }

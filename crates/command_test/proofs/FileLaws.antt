@@ -1,12 +1,12 @@
 -- What is known of the two files of the command, and what was read of them.
-use Rattle.std.proofs.Common.{◌≡◌, ℕ, ◌≤◌, inl, inr, List, [], ◌∷◌, ◌++◌, length, refl, sym, ◌∙◌, subst, arith}
+use Rattle.std.proofs.Common.{◌≡◌, ℕ, ◌≤◌, inl, inr, List, [], ◌∷◌, ◌++◌, length, refl, sym, ◌∙◌, subst}
 use Rattle.std.specs.Borrow.{Bor}
 use Rattle.std.specs.Prelude.{IfErr, IfOk, OnOk, Option, Result, Ok, Err}
 use Rattle.command_io.proofs.ConfigLaws.{file_of_text}
 use Rattle.command_io.proofs.Sinks.{appended_twice}
 use Rattle.command_io.specs.Configs.{ReadsAs}
 use Rattle.command_io.specs.Fetches.{IsFetchFault, IsTextFault, ending_of_fetch, ending_of_file, fetch_reads}
-use Rattle.command_io.specs.Files.{ForHeld, IsFileFault, ReadMore, bad_read, good_read, reads_of}
+use Rattle.command_io.specs.Files.{ForGiven, Gives, IsFileFault, ReadMore, bad_read, good_read, reads_of}
 use Rattle.command_io.specs.declared.ending.ConfigRefusal.TheVariants.{Refused}
 use Rattle.command_io.specs.declared.ending.Ending.TheVariants.{Finished, ConfigRefused, Unread, OverLimit, OutOfMemory}
 use Rattle.command_io.specs.declared.fetch.FetchFault.{FetchFault}
@@ -16,7 +16,7 @@ use Rattle.command_io.specs.declared.read.FileFault.{FileFault}
 use Rattle.command_io.specs.declared.read.FileFault.TheVariants as file
 use Rattle.config_terms.specs.declared.fault.ConfigFault.TheVariants as config_fault
 use Rattle.config_tests.specs.declared.entry.Test.{Test}
-use Rattle.ports.specs.Reading.{Content, IsOverLimit, StoreReport}
+use Rattle.ports.specs.Reading.{StoreReport}
 use Rattle.ports.specs.declared.store.StoreRead.{StoreRead}
 use Rattle.sexp_config.specs.declared.config.Config.{Config}
 use Rattle.command_test.specs.Endings.{HasNoTests, IsComplete}
@@ -29,19 +29,15 @@ use Rattle.command_test.specs.declared.ending.TestsEnding.TheVariants.{Shared, D
 
 -- ---- the text of a file
 
--- the file has this text, and is within its limit
-abbrev pub HasText : Content → List ℕ → Type 0
-HasText content text = ForHeld content (λ held. (held ≡ text) × (length text ≤ CONFIG_LIMIT))
+-- a read of the file gave this text, which is within its limit
+abbrev pub HasText : List ℕ → StoreReport → StoreReport → List ℕ → Type 0
+HasText name old new text = Gives name text old new × (length text ≤ CONFIG_LIMIT)
 
 -- a fact of the text that was read is one of the file
-for_text : (content : Content) (text : List ℕ) (P : List ℕ → Type 0) → HasText content text → P text
-    → ForHeld content (λ held. (length held ≤ CONFIG_LIMIT) × P held)
-for_text content text P has fact = λ held reported.
-    let found = has held reported in (
-      found.0,
-      found.1,
-      subst (λ (bytes : List ℕ). (length bytes ≤ CONFIG_LIMIT) × P bytes) (sym found.2.0) (found.2.1, fact),
-    )
+for_text : (name : List ℕ) (old new : StoreReport) (text : List ℕ) (P : List ℕ → Type 0) → HasText name old new text
+    → P text
+    → ForGiven name old new (λ given. (length given ≤ CONFIG_LIMIT) × P given)
+for_text name old new text P has fact = (text, has.0, (has.1, fact))
 
 pub file_read : {T E : Type 0} (name : List ℕ) (old new : Option (List StoreRead)) (read : Result T E)
     → ReadMore (good_read name ∷ []) old new
@@ -51,24 +47,22 @@ file_read name old new (Err fault) grew = tt
 
 -- ---- the configuration
 
-pub has_config : (content : Content) (text : List ℕ) → (holds : HoldsConfig content text)
-    → HasConfig content holds.config
-has_config content text holds = for_text content text (λ held. ReadsAs held holds.config) holds.holds holds.is
+pub has_config : (name : List ℕ) (old new : StoreReport) (text : List ℕ) → (holds : HoldsConfig name old new text)
+    → HasConfig name old new holds.config
+has_config name old new text holds = for_text name old new text (λ given. ReadsAs given holds.config) holds.holds holds.is
 
-module _ (content : Content) (text : List ℕ) (has : HasText content text) where
+module _ (name : List ℕ) (old new : StoreReport) (text : List ℕ) (has : HasText name old new text) where
   pub config_of_file : (read : Result (List ℕ) FetchFault) → IfOk read (λ same. (same ≡ text) × IsReadConfig text)
-      → IfOk read (HoldsConfig content)
+      → IfOk read (HoldsConfig name old new)
   config_of_file (Ok same) is =
-      subst (λ (bytes : List ℕ). HoldsConfig content bytes) (sym is.0)
+      subst (λ (bytes : List ℕ). HoldsConfig name old new bytes) (sym is.0)
       (record { config = is.1.0; is = is.1.1; holds = has })
   config_of_file (Err fault) is = tt
 
-  pub no_config_of_file : (faults faults' taken taken' : ℕ) (read : Result (List ℕ) FetchFault)
-      → IfErr read (IsTextFault text)
-      → IfErr read (IsFetchFault content faults faults' taken taken')
-  no_config_of_file faults faults' taken taken' (Ok same) is = tt
-  no_config_of_file faults faults' taken taken' (Err fault) is =
-      file_of_text content text faults faults' taken taken' (Err fault) has is
+  pub no_config_of_file : (read : Result (List ℕ) FetchFault) → IfErr read (IsTextFault text)
+      → IfErr read (IsFetchFault name old new)
+  no_config_of_file (Ok same) is = tt
+  no_config_of_file (Err fault) is = file_of_text name text old new (Err fault) has.0 has.1 is
 
 -- the file whose text is not a configuration was read
 pub config_read : (name text : List ℕ) (old new : Option (List StoreRead)) (read : Result (List ℕ) FetchFault)
@@ -80,13 +74,13 @@ config_read name text old new (Err (fetch.Config fault)) is grew = grew
 
 pub config_refused : (name : List ℕ) (shown : Bor (List ℕ)) (old new : StoreReport) (fault : FetchFault)
     → shown.now ≡ name
-    → IsFetchFault (old.held name) old.faults new.faults old.taken new.taken fault
+    → IsFetchFault name old new fault
     → RefusesConfig name old new (Shared (ending_of_fetch shown fault))
-config_refused name shown old new (fetch.File file.Unread) is cause = (cause, is)
-config_refused name shown old new (fetch.File file.TooLong) is cause = (cause.0, cause.1, is, refl)
-config_refused name shown old new (fetch.File file.Memory) is cause = tt
+config_refused name shown old new (fetch.File file.Unread) is cause = (cause.0, is, cause.1)
+config_refused name shown old new (fetch.File file.TooLong) is cause = (cause.0, cause.1, is, refl, cause.2)
+config_refused name shown old new (fetch.File file.Memory) is cause = inl cause
 config_refused name shown old new (fetch.Config (config_fault.Refused place why)) is cause = cause
-config_refused name shown old new (fetch.Config config_fault.Memory) is cause = tt
+config_refused name shown old new (fetch.Config config_fault.Memory) is cause = inr cause
 
 pub config_unread : (name : List ℕ) (shown : Bor (List ℕ)) (old new : Option (List StoreRead)) (fault : FetchFault)
     → ReadMore (fetch_reads name (Err fault)) old new
@@ -103,12 +97,12 @@ config_not_complete shown _ complete = complete
 
 -- ---- the tests
 
-tests_refused : (name text : List ℕ) (old new : StoreReport) (ending : TestsEnding) → HasText (old.held name) text
+tests_refused : (name text : List ℕ) (old new : StoreReport) (ending : TestsEnding) → HasText name old new text
     → RefusesTestsText text ending
     → RefusesTests name old new ending
 tests_refused name text old new (TestsRefused place why) has refuses =
-    for_text (old.held name) text (λ (bytes : List ℕ). AreRefused bytes place why) has refuses
-tests_refused name text old new (Shared OutOfMemory) has refuses = tt
+    for_text name old new text (λ (bytes : List ℕ). AreRefused bytes place why) has refuses
+tests_refused name text old new (Shared OutOfMemory) has refuses = inr (text, has.0)
 tests_refused name text old new _ has refuses = absurd refuses
 
 tests_read : (name text : List ℕ) (old new : Option (List StoreRead)) (ending : TestsEnding)
@@ -118,10 +112,10 @@ tests_read name text old new (Shared (Unread unread)) refuses grew = absurd refu
 tests_read name text old new (Shared OutOfMemory) refuses grew = inr grew
 tests_read name text old new _ refuses grew = grew
 
-module _ (name text : List ℕ) (old new : StoreReport) (has : HasText (old.held name) text) where
+module _ (name text : List ℕ) (old new : StoreReport) (has : HasText name old new text) where
   pub tests_of_file : (read : Result (List Test) TestsEnding) → IfOk read (ReadsAsTests text)
-      → IfOk read (HasTests (old.held name))
-  tests_of_file (Ok tests) reads = for_text (old.held name) text (λ held. ReadsAsTests held tests) has reads
+      → IfOk read (HasTests name old new)
+  tests_of_file (Ok tests) reads = for_text name old new text (λ given. ReadsAsTests given tests) has reads
   tests_of_file (Err ending) reads = tt
 
   pub no_tests_of_file : (read : Result (List Test) TestsEnding) → IfErr read (RefusesTestsText text)
@@ -138,37 +132,17 @@ no_tests_read name text old new (Err ending) refuses grew = tests_read name text
 
 pub tests_file_refused : (name : List ℕ) (shown : Bor (List ℕ)) (old new : StoreReport) (fault : FileFault)
     → shown.now ≡ name
-    → IsFileFault (old.held name) CONFIG_LIMIT old.faults new.faults old.taken new.taken fault
+    → IsFileFault name CONFIG_LIMIT old new fault
     → RefusesTests name old new (Shared (ending_of_file shown CONFIG_LIMIT fault))
-tests_file_refused name shown old new file.Unread is cause = (cause, is)
-tests_file_refused name shown old new file.TooLong is cause = (cause.0, cause.1, is, refl)
-tests_file_refused name shown old new file.Memory is cause = tt
+tests_file_refused name shown old new file.Unread is cause = (cause.0, is, cause.1)
+tests_file_refused name shown old new file.TooLong is cause = (cause.0, cause.1, is, refl, cause.2)
+tests_file_refused name shown old new file.Memory is cause = inl cause
 
 pub tests_unread : (name : List ℕ) (shown : Bor (List ℕ)) (old new : Option (List StoreRead)) (fault : FileFault)
     → ReadMore (reads_of name (Err fault)) old new
     → ReadsOnce [] name old new (Shared (ending_of_file shown CONFIG_LIMIT fault))
 tests_unread name shown old new file.Memory grew = inl grew
 tests_unread name shown old new _ grew = grew
-
--- what was counted since a later moment was counted since an earlier one
-pub tests_refused_since : (name : List ℕ) (old mid new : StoreReport) (ending : TestsEnding) → mid.faults ≡ old.faults
-    → old.taken ≤ mid.taken → mid.held ≡ old.held
-    → RefusesTests name mid new ending → RefusesTests name old new ending
-tests_refused_since name old mid new (TestsRefused place why) same rises held refuses =
-    subst
-    (λ (files : List ℕ → Content).
-    ForHeld (files name) (λ text. (length text ≤ CONFIG_LIMIT) × AreRefused text place why))
-    held refuses
-tests_refused_since name old mid new (Shared (Unread unread)) same rises held refuses =
-    (rw same at refuses.0, refuses.1)
-tests_refused_since name old mid new (Shared (OverLimit over limit)) same rises held refuses = (
-  subst (λ (files : List ℕ → Content). IsOverLimit (files name) CONFIG_LIMIT) held refuses.0,
-  λ small. omega (arith, refuses.1 small),
-  refuses.2,
-  refuses.3,
-)
-tests_refused_since name old mid new (Shared OutOfMemory) same rises held refuses = tt
-tests_refused_since name old mid new _ same rises held refuses = absurd refuses
 
 pub tests_not_complete : (name : List ℕ) (old new : StoreReport) (ending : TestsEnding)
     → RefusesTests name old new ending → IsComplete ending → ⊥

@@ -26,16 +26,16 @@ run_report_of reports = run_report reports.patterns reports.out
 abbrev pub SuiteEnds : Configuration → List ℕ → StoreReport → StoreReport → RunReport → RunReport → TestsEnding → Type 0
 SuiteEnds config tests store store' old new ending =
     (RefusesTests tests store store' ending × (new ≡ old))
-    ⊎ ((given : List Test) × HasTests (store.held tests) given × RunEnds config given old new ending)
+    ⊎ ((given : List Test) × HasTests tests store store' given × RunEnds config given old new ending)
 
 -- There is no configuration in the file of the first name, and nothing was run and the tests were not read. Or there is
--- one, and then the tests were read too.
+-- one, and then the tests were read too: the store reported `mid` between the two reads.
 abbrev pub TestsEnd : List ℕ → List ℕ → StoreReport → StoreReport → RunReport → RunReport → TestsEnding → Type 0
 TestsEnd config tests store store' old new ending =
     (RefusesConfig config store store' ending × (new ≡ old) × ReadsOnce [] config store.reads store'.reads ending)
-    ⊎ ((read : Configuration) × HasConfig (store.held config) read
+    ⊎ ((read : Configuration) × (mid : StoreReport) × HasConfig config store mid read
     × ReadsOnce (good_read config ∷ []) tests store.reads store'.reads ending
-    × SuiteEnds read tests store store' old new ending)
+    × SuiteEnds read tests mid store' old new ending)
 
 -- the status of a command that ran all tests, or ran out of memory
 abbrev pub HasShown : CoreConfig → List Test → Status → Type 0

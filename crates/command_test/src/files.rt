@@ -22,10 +22,10 @@ pub(crate) fn fetch_config<S: Store>(
     name: &Text,
     store: &mut S,
 ) -> Result<Blob, FetchFault>
-    ensures config { IfOk result (HoldsConfig ((S.report store.old).held name.now)) }
-    ensures fault { IfErr result (IsFetchFault ((S.report store.old).held name.now)
-        (S.report store.old).faults (S.report store.new).faults (S.report store.old).taken
-        (S.report store.new).taken) }
+    ensures config { IfOk result
+        (HoldsConfig name.now (S.report store.old) (S.report store.new)) }
+    ensures fault { IfErr result
+        (IsFetchFault name.now (S.report store.old) (S.report store.new)) }
     ensures read { OnOk result (ReadMore (good_read name.now ∷ []) (S.report store.old).reads
         (S.report store.new).reads) }
     ensures reads { IfErr result (λ fault. ReadMore (fetch_reads name.now (Err fault))
@@ -68,7 +68,7 @@ pub(crate) fn fetch_tests<'a, S: Store>(
     name: &'a Text,
     store: &mut S,
 ) -> Result<Tests, TestsEnding<'a>>
-    ensures tests { IfOk result (HasTests ((S.report store.old).held name.now)) }
+    ensures tests { IfOk result (HasTests name.now (S.report store.old) (S.report store.new)) }
     ensures short { IfOk result (AllByRecursion IsShort) }
     ensures refused { IfErr result
         (RefusesTests name.now (S.report store.old) (S.report store.new)) }

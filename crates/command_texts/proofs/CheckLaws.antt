@@ -1,9 +1,9 @@
 -- What `check` promises, from what its parts say.
-use Rattle.std.proofs.Common.{◌≡◌, ℕ, ◌≤◌, List, [], ◌∷◌, length, refl, arith}
+use Rattle.std.proofs.Common.{◌≡◌, ℕ, ◌≤◌, List, [], ◌∷◌, length, refl, inl, inr, arith}
 use Rattle.std.specs.Borrow.{Bor}
 use Rattle.std.specs.Prelude.{Option}
 use Rattle.ports.specs.Counts.{IsStill, Rose}
-use Rattle.ports.specs.Reading.{Content, IsHeld}
+use Rattle.ports.specs.Reading.{IsHeld, StoreReport}
 use Rattle.ports.specs.declared.store.StoreRead.{StoreRead}
 use Rattle.command_io.specs.sexp_config.declared.config.Config.{Config}
 use Rattle.command_io.specs.sexp_config.Config.{IsConfigOf}
@@ -26,47 +26,44 @@ use Rattle.command_io.specs.Fetches.{IsFetchFault, ending_of_fetch}
 use Rattle.command_io.specs.Files.{ReadMore, good_read}
 use Rattle.ports.specs.Writing.{SinkReport}
 use Rattle.command_io.specs.hub_meaning.Verdicts.{PatternsReport}
-use Rattle.command_io.proofs.ConfigLaws.{HoldsConfig, config_not_refused, for_config, refuses_pattern}
+use Rattle.command_io.proofs.ConfigLaws.{GivesConfig, config_not_refused, for_config, refuses_pattern}
 use Rattle.command_io.proofs.EndingLaws.{not_over}
 use Rattle.command_io.proofs.ReadLaws.{read_alone}
 
 -- ---- where there is no configuration
 
-pub check_cause_fault : (name : List ℕ) (shown : Bor (List ℕ)) (config : Content) (faults faults' taken taken' : ℕ)
-    (fault : FetchFault)
+pub check_cause_fault : (name : List ℕ) (shown : Bor (List ℕ)) (store store' : StoreReport) (fault : FetchFault)
     → shown.now ≡ name
-    → IsFetchFault config faults faults' taken taken' fault → CheckCause name config (ending_of_fetch shown fault)
-check_cause_fault name shown config faults faults' taken taken' (fetch.Config (Refused place why)) is cause = tt
-check_cause_fault name shown config faults faults' taken taken' (fetch.File file.Unread) is cause = is
-check_cause_fault name shown config faults faults' taken taken' (fetch.File file.TooLong) is cause = (cause.0, is, refl)
-check_cause_fault name shown config faults faults' taken taken' (fetch.File file.Memory) is cause = tt
-check_cause_fault name shown config faults faults' taken taken' (fetch.Config Memory) is cause = tt
+    → IsFetchFault name store store' fault → CheckCause name store store' (ending_of_fetch shown fault)
+check_cause_fault name shown store store' (fetch.Config (Refused place why)) is cause = tt
+check_cause_fault name shown store store' (fetch.File file.Unread) is cause = (is, cause.1)
+check_cause_fault name shown store store' (fetch.File file.TooLong) is cause = (cause.0, is, refl, cause.2)
+check_cause_fault name shown store store' (fetch.File file.Memory) is cause = inl cause
+check_cause_fault name shown store store' (fetch.Config Memory) is cause = inr cause
 
-pub check_writes_fault : (name : Bor (List ℕ)) (config : Content) (faults faults' taken taken' : ℕ)
-    (patterns : PatternsReport) (out : SinkReport)
-    (fault : FetchFault) → IsFetchFault config faults faults' taken taken' fault
-    → CheckWrites config patterns patterns out out (ending_of_fetch name fault)
-check_writes_fault name config faults faults' taken taken' patterns out (fetch.Config (Refused place why)) cause =
-    ((cause, refl), refl)
-check_writes_fault name config faults faults' taken taken' patterns out (fetch.File file.Unread) cause = (refl, refl)
-check_writes_fault name config faults faults' taken taken' patterns out (fetch.File file.TooLong) cause = (refl, refl)
-check_writes_fault name config faults faults' taken taken' patterns out (fetch.File file.Memory) cause = (refl, refl)
-check_writes_fault name config faults faults' taken taken' patterns out (fetch.Config Memory) cause = (refl, refl)
+pub check_writes_fault : (name : List ℕ) (shown : Bor (List ℕ)) (store store' : StoreReport) (patterns : PatternsReport)
+    (out : SinkReport) (fault : FetchFault) → IsFetchFault name store store' fault
+    → CheckWrites name store store' patterns patterns out out (ending_of_fetch shown fault)
+check_writes_fault name shown store store' patterns out (fetch.Config (Refused place why)) cause = ((cause, refl), refl)
+check_writes_fault name shown store store' patterns out (fetch.File file.Unread) cause = (refl, refl)
+check_writes_fault name shown store store' patterns out (fetch.File file.TooLong) cause = (refl, refl)
+check_writes_fault name shown store store' patterns out (fetch.File file.Memory) cause = (refl, refl)
+check_writes_fault name shown store store' patterns out (fetch.Config Memory) cause = (refl, refl)
 
 -- ---- once it has its configuration
 
-pub check_cause : (name : List ℕ) (content : Content) (config : Config) (patterns patterns' : PatternsReport)
-    (out out' : SinkReport) (ending : Ending)
-    → EndsCheck config patterns patterns' out out' ending → CheckCause name content ending
-check_cause name content config patterns patterns' out out' Finished ends = tt
-check_cause name content config patterns patterns' out out' (ConfigRefused refusal) ends = tt
-check_cause name content config patterns patterns' out out' (Unread unread) ends = absurd ends
-check_cause name content config patterns patterns' out out' (OverLimit over limit) ends = absurd ends
-check_cause name content config patterns patterns' out out' (BytesLeft count) ends = absurd ends
-check_cause name content config patterns patterns' out out' LinksFailed ends = absurd ends
-check_cause name content config patterns patterns' out out' (ScriptRefused line) ends = absurd ends
-check_cause name content config patterns patterns' out out' WriteFailed ends = tt
-check_cause name content config patterns patterns' out out' OutOfMemory ends = tt
+pub check_cause : (name : List ℕ) (store store' : StoreReport) (config : Config) (patterns patterns' : PatternsReport)
+    (out out' : SinkReport) (ending : Ending) → GivesConfig name store store' config
+    → EndsCheck config patterns patterns' out out' ending → CheckCause name store store' ending
+check_cause name store store' config patterns patterns' out out' Finished given ends = tt
+check_cause name store store' config patterns patterns' out out' (ConfigRefused refusal) given ends = tt
+check_cause name store store' config patterns patterns' out out' (Unread unread) given ends = absurd ends
+check_cause name store store' config patterns patterns' out out' (OverLimit over limit) given ends = absurd ends
+check_cause name store store' config patterns patterns' out out' (BytesLeft count) given ends = absurd ends
+check_cause name store store' config patterns patterns' out out' LinksFailed given ends = absurd ends
+check_cause name store store' config patterns patterns' out out' (ScriptRefused line) given ends = absurd ends
+check_cause name store store' config patterns patterns' out out' WriteFailed given ends = tt
+check_cause name store store' config patterns patterns' out out' OutOfMemory given ends = inr (given.0, given.1)
 
 pub check_took : (config : Config) (patterns patterns' : PatternsReport) (out out' : SinkReport) (ending : Ending)
     (taken taken' : ℕ)
@@ -81,31 +78,31 @@ check_took config patterns patterns' out out' (ScriptRefused line) taken taken' 
 check_took config patterns patterns' out out' WriteFailed taken taken' ends = tt
 check_took config patterns patterns' out out' OutOfMemory taken taken' ends = tt
 
-config_refuses : (content : Content) (config : Config) (refusal : ConfigRefusal) (patterns patterns' : PatternsReport)
+config_refuses : (name : List ℕ) (store store' : StoreReport) (config : Config) (refusal : ConfigRefusal) (patterns patterns' : PatternsReport)
     (out out' : SinkReport)
-    → HoldsConfig content config
+    → GivesConfig name store store' config
     → EndsCheck config patterns patterns' out out' (ConfigRefused refusal)
-    → RefusesConfig content patterns patterns' refusal × (out' ≡ out)
-config_refuses content config (refusals.Refused place why) patterns patterns' out out' holds ends = absurd ends
-config_refuses content config (refusals.Pattern number) patterns patterns' out out' holds ends =
-    (refuses_pattern content config number patterns patterns' holds ends.0, ends.1)
+    → RefusesConfig name store store' patterns patterns' refusal × (out' ≡ out)
+config_refuses name store store' config (refusals.Refused place why) patterns patterns' out out' given ends = absurd ends
+config_refuses name store store' config (refusals.Pattern number) patterns patterns' out out' given ends =
+    (refuses_pattern name store store' config number patterns patterns' given ends.0, ends.1)
 
-pub check_writes : (content : Content) (config : Config) (patterns patterns' : PatternsReport) (out out' : SinkReport)
+pub check_writes : (name : List ℕ) (store store' : StoreReport) (config : Config) (patterns patterns' : PatternsReport) (out out' : SinkReport)
     (ending : Ending)
-    → HoldsConfig content config
-    → EndsCheck config patterns patterns' out out' ending → CheckWrites content patterns patterns' out out' ending
-check_writes content config patterns patterns' out out' Finished holds ends =
-    (for_config content config _ holds (ends.0, ends.1), ends.3)
-check_writes content config patterns patterns' out out' WriteFailed holds ends =
-    (for_config content config _ holds (ends.0, ends.1), ends.2, ends.3)
-check_writes content config patterns patterns' out out' (ConfigRefused refusal) holds ends =
-    config_refuses content config refusal patterns patterns' out out' holds ends
-check_writes content config patterns patterns' out out' OutOfMemory holds ends = ends
-check_writes content config patterns patterns' out out' (Unread unread) holds ends = absurd ends
-check_writes content config patterns patterns' out out' (OverLimit over limit) holds ends = absurd ends
-check_writes content config patterns patterns' out out' (BytesLeft count) holds ends = absurd ends
-check_writes content config patterns patterns' out out' LinksFailed holds ends = absurd ends
-check_writes content config patterns patterns' out out' (ScriptRefused line) holds ends = absurd ends
+    → GivesConfig name store store' config
+    → EndsCheck config patterns patterns' out out' ending → CheckWrites name store store' patterns patterns' out out' ending
+check_writes name store store' config patterns patterns' out out' Finished given ends =
+    (for_config name store store' config _ given (ends.0, ends.1), ends.3)
+check_writes name store store' config patterns patterns' out out' WriteFailed given ends =
+    (for_config name store store' config _ given (ends.0, ends.1), ends.2, ends.3)
+check_writes name store store' config patterns patterns' out out' (ConfigRefused refusal) given ends =
+    config_refuses name store store' config refusal patterns patterns' out out' given ends
+check_writes name store store' config patterns patterns' out out' OutOfMemory given ends = ends
+check_writes name store store' config patterns patterns' out out' (Unread unread) given ends = absurd ends
+check_writes name store store' config patterns patterns' out out' (OverLimit over limit) given ends = absurd ends
+check_writes name store store' config patterns patterns' out out' (BytesLeft count) given ends = absurd ends
+check_writes name store store' config patterns patterns' out out' LinksFailed given ends = absurd ends
+check_writes name store store' config patterns patterns' out out' (ScriptRefused line) given ends = absurd ends
 
 pub check_quiet : (config : Config) (patterns patterns' : PatternsReport) (out out' : SinkReport) (ending : Ending)
     → EndsCheck config patterns patterns' out out' ending → IsComplete ending → out'.faults ≡ out.faults
@@ -144,52 +141,52 @@ check_rose config patterns patterns' out out' WriteFailed ends e = ends.2
 check_rose config patterns patterns' out out' OutOfMemory ends e = cc
 
 -- it calls no link that could fail
-pub links_not_called : (name : List ℕ) (content : Content) (ending : Ending) → CheckCause name content ending
+pub links_not_called : (name : List ℕ) (store store' : StoreReport) (ending : Ending) → CheckCause name store store' ending
     → status_of ending ≡ LinkFault → ⊥
-links_not_called name content Finished cause e = cc
-links_not_called name content (ConfigRefused refusal) cause e = cc
-links_not_called name content (Unread unread) cause e = cc
-links_not_called name content (OverLimit over limit) cause e = cc
-links_not_called name content (BytesLeft count) cause e = cc
-links_not_called name content WriteFailed cause e = cc
-links_not_called name content LinksFailed cause e = cause
-links_not_called name content (ScriptRefused line) cause e = cc
-links_not_called name content OutOfMemory cause e = cc
+links_not_called name store store' Finished cause e = cc
+links_not_called name store store' (ConfigRefused refusal) cause e = cc
+links_not_called name store store' (Unread unread) cause e = cc
+links_not_called name store store' (OverLimit over limit) cause e = cc
+links_not_called name store store' (BytesLeft count) cause e = cc
+links_not_called name store store' WriteFailed cause e = cc
+links_not_called name store store' LinksFailed cause e = cause
+links_not_called name store store' (ScriptRefused line) cause e = cc
+links_not_called name store store' OutOfMemory cause e = cc
 
 -- ---- completeness
 
-pub check_complete : (name : List ℕ) (content : Content) (text : List ℕ) (read : Config)
+pub check_complete : (name : List ℕ) (store store' : StoreReport) (text : List ℕ) (read : Config)
     (patterns patterns' : PatternsReport) (out out' : SinkReport) (reads reads' : ℕ) (ending : Ending)
-    → IsHeld content text → IsConfigOf text read → length text ≤ CONFIG_LIMIT → CheckCause name content ending
-    → CheckWrites content patterns patterns' out out' ending
+    → IsHeld (store.held name) text → IsConfigOf text read → length text ≤ CONFIG_LIMIT → CheckCause name store store' ending
+    → CheckWrites name store store' patterns patterns' out out' ending
     → (status_of ending ≡ ReadFault → Rose reads reads') → (status_of ending ≡ SinkFault → Rose out.faults out'.faults)
     → IsStill reads reads' → IsStill out.faults out'.faults → IsStill patterns.refusals patterns'.refusals
     → IsDoneOrMemory (status_of ending)
-check_complete name content text read patterns patterns' out out' reads reads' Finished holds is fits cause writes
+check_complete name store store' text read patterns patterns' out out' reads reads' Finished holds is fits cause writes
     read_rose put_rose reads_still puts_still still =
     tt
-check_complete name content text read patterns patterns' out out' reads reads' OutOfMemory holds is fits cause writes
+check_complete name store store' text read patterns patterns' out out' reads reads' OutOfMemory holds is fits cause writes
     read_rose put_rose reads_still puts_still still =
     tt
-check_complete name content text read patterns patterns' out out' reads reads' WriteFailed holds is fits cause writes
+check_complete name store store' text read patterns patterns' out out' reads reads' WriteFailed holds is fits cause writes
     read_rose put_rose reads_still puts_still still =
     omega (arith, put_rose refl, puts_still.0, puts_still.1)
-check_complete name content text read patterns patterns' out out' reads reads' (Unread unread) holds is fits cause
+check_complete name store store' text read patterns patterns' out out' reads reads' (Unread unread) holds is fits cause
     writes read_rose put_rose reads_still puts_still still =
     omega (arith, read_rose refl, reads_still.0, reads_still.1)
-check_complete name content text read patterns patterns' out out' reads reads' (ConfigRefused refusal) holds is fits
+check_complete name store store' text read patterns patterns' out out' reads reads' (ConfigRefused refusal) holds is fits
     cause writes read_rose put_rose reads_still puts_still still =
-    config_not_refused content text read refusal patterns patterns' holds is still writes.0
-check_complete name content text read patterns patterns' out out' reads reads' (OverLimit over limit) holds is fits
+    config_not_refused name store store' text read refusal patterns patterns' holds is still writes.0
+check_complete name store store' text read patterns patterns' out out' reads reads' (OverLimit over limit) holds is fits
     cause writes read_rose put_rose reads_still puts_still still =
-    not_over content text CONFIG_LIMIT holds fits cause.0
-check_complete name content text read patterns patterns' out out' reads reads' (BytesLeft count) holds is fits cause
+    not_over (store.held name) text CONFIG_LIMIT holds fits cause.0
+check_complete name store store' text read patterns patterns' out out' reads reads' (BytesLeft count) holds is fits cause
     writes read_rose put_rose reads_still puts_still still =
     cause
-check_complete name content text read patterns patterns' out out' reads reads' LinksFailed holds is fits cause writes
+check_complete name store store' text read patterns patterns' out out' reads reads' LinksFailed holds is fits cause writes
     read_rose put_rose reads_still puts_still still =
     cause
-check_complete name content text read patterns patterns' out out' reads reads' (ScriptRefused line) holds is fits cause
+check_complete name store store' text read patterns patterns' out out' reads reads' (ScriptRefused line) holds is fits cause
     writes read_rose put_rose reads_still puts_still still =
     cause
 

@@ -1,6 +1,6 @@
 -- How a call of the command ends.
 use Rattle.std.proofs.Common.{◌≡◌, ℕ, ◌+◌, ◌<◌, ◌⊎◌, List, [], ◌∷◌, ◌++◌, length, take, get_or, Option}
-use Rattle.std.proofs.Common.{Err, refl, sym, ◌∙◌, ap, subst, arith, inl, inr, append-nil}
+use Rattle.std.proofs.Common.{Err, refl, sym, ◌∙◌, ap, arith, inl, inr, append-nil}
 use Rattle.std.proofs.lemmas.Grind.{flat_map-append}
 use Rattle.std.specs.Borrow.{Bor}
 use Rattle.std.proofs.lemmas.List.{get_or_default, take_more}
@@ -92,12 +92,12 @@ text_ends law host_part text frames lines out out' err err' DiskFault f l w = w
 -- ---- the command
 
 pub converted_ends : (name : List ℕ) (host_part : Option ℕ) (old new : Reports) (text : List ℕ) (status : Status)
-    → IsText (old.store.held name) text
+    → IsText name old.store new.store text
     → ConvertsText host_part text old.out new.out old.err new.err status → ConvertEnds name host_part old new status
 converted_ends name host_part old new text Done is ends = (text, is, ends)
 converted_ends name host_part old new text Lines is ends = (text, is, ends)
 converted_ends name host_part old new text SinkFault is ends = (text, is, ends)
-converted_ends name host_part old new text Memory is ends = ends
+converted_ends name host_part old new text Memory is ends = (ends.0, ends.1, inr (text, is.0))
 converted_ends name host_part old new text Usage is ends = absurd ends
 converted_ends name host_part old new text Config is ends = absurd ends
 converted_ends name host_part old new text ReadFault is ends = absurd ends
@@ -137,14 +137,14 @@ converted_reads name host_part text out out' err err' reads reads' DiskFault end
 -- the file was not read
 pub fault_ends : (name : List ℕ) (shown : Bor (List ℕ)) (host_part : Option ℕ) (old new : Reports) (fault : FileFault)
     → shown.now ≡ name
-    → IsFileFault (old.store.held name) FILE_LIMIT old.store.faults new.store.faults old.store.taken new.store.taken
-    fault
+    → IsFileFault name FILE_LIMIT old.store new.store fault
     → new.out ≡ old.out
     → Says (ending_of_file shown FILE_LIMIT fault) old.err new.err
     → ConvertEnds name host_part old new (status_of (ending_of_file shown FILE_LIMIT fault))
-fault_ends name shown host_part old new file.Unread is cause same says = (cause, same, rw is at says)
-fault_ends name shown host_part old new file.TooLong is cause same says = (cause.0, cause.1, same, rw is at says)
-fault_ends name shown host_part old new file.Memory is cause same says = (same, says)
+fault_ends name shown host_part old new file.Unread is cause same says = (cause.0, same, rw is at says, cause.1)
+fault_ends name shown host_part old new file.TooLong is cause same says =
+    (cause.0, cause.1, same, rw is at says, cause.2)
+fault_ends name shown host_part old new file.Memory is cause same says = (same, says, inl cause)
 
 pub fault_reads : (name : List ℕ) (shown : Bor (List ℕ)) (reads reads' : Option (List StoreRead)) (fault : FileFault)
     → ReadMore (reads_of name (Err fault)) reads reads'
@@ -179,11 +179,11 @@ pub convert_complete : (name : List ℕ) (host_part : Option ℕ) (old new : Rep
     → ConvertEnds name host_part old new status
     → ConvertCompletes name host_part old new status
 convert_complete name host_part old new Done ends text holds fits read_still put_still err_still =
-    let is = reported_of (old.store.held name) text _ holds ends.1 in
-    (let P : List ℕ → Type 0 = λ t. refused_lines host_part t ≡ [] in subst P (sym is.0) ends.2.0)
+    reported_of name old.store new.store text (λ t. refused_lines host_part t ≡ []) holds
+    (ends.0, ends.1.0, ends.2.0)
 convert_complete name host_part old new Lines ends text holds fits read_still put_still err_still =
-    let is = reported_of (old.store.held name) text _ holds ends.1 in
-    (let P : List ℕ → Type 0 = λ t. refused_lines host_part t ≡ [] → ⊥ in subst P (sym is.0) ends.2.0)
+    reported_of name old.store new.store text (λ t. refused_lines host_part t ≡ [] → ⊥) holds
+    (ends.0, ends.1.0, ends.2.0)
 convert_complete name host_part old new SinkFault ends text holds fits read_still put_still err_still =
     absurd (sink_rose host_part ends.0 old.out new.out old.err new.err ends.2 put_still err_still)
 convert_complete name host_part old new Memory ends text holds fits read_still put_still err_still = tt

@@ -3,7 +3,7 @@ use Rattle.std.specs.Prelude.{◌≡◌, ◌≢◌, ℕ, ◌+◌, ◌≤◌, ◌
 use Rattle.std.specs.Fmt.{decimal}
 use Rattle.std.specs.List.{flat_map}
 use Rattle.command_io.specs.Endings.{GotLineOf}
-use Rattle.command_io.specs.Files.{ForHeld, ReadMore, bad_read, good_read}
+use Rattle.command_io.specs.Files.{Gives, GivesNone, MayGive, ReadMore, bad_read, good_read}
 use Rattle.command_io.specs.Lines.{memory_line, too_long_line, unread_line}
 use Rattle.command_io.specs.Reports.{Reports}
 use Rattle.command_io.specs.declared.limits.TheConstants.{FILE_LIMIT}
@@ -14,7 +14,7 @@ use Rattle.graphite_lines.specs.Lines.{lines_of}
 use Rattle.graphite_lines.specs.Names.{why_name}
 use Rattle.graphite_lines.specs.declared.bad.BadLine.{BadLine}
 use Rattle.ports.specs.Counts.{IsStill, Rose, RoseBy}
-use Rattle.ports.specs.Reading.{Content, IsHeld, IsOverLimit}
+use Rattle.ports.specs.Reading.{IsHeld, IsOverLimit, StoreReport}
 use Rattle.ports.specs.Writing.{SinkReport}
 use Rattle.ports.specs.declared.store.StoreRead.{StoreRead}
 use Rattle.command_texts.specs.Writing.{WritesAll, WritesSome}
@@ -49,19 +49,21 @@ ConvertsText host_part text out out' err err' _ = ⊥
 
 -- ---- the command
 
--- the file has these bytes, and is within its limit
-abbrev pub IsText : Content → List ℕ → Type 0
-IsText content text = ForHeld content (λ held. (held ≡ text) × (length text ≤ FILE_LIMIT))
+-- a read of the file of the name gave this text, which is within its limit, from what the store reports before and after
+abbrev pub IsText : List ℕ → StoreReport → StoreReport → List ℕ → Type 0
+IsText name old new text = Gives name text old new × (length text ≤ FILE_LIMIT)
 
 -- the file could not be read, or it was read and converted
 abbrev pub ConvertEnds : List ℕ → Option ℕ → Reports → Reports → Status → Type 0
 ConvertEnds file host_part old new ReadFault =
     Rose old.store.faults new.store.faults × (new.out ≡ old.out) × GotLineOf (unread_line file) old.err new.err
+    × GivesNone old.store new.store
 ConvertEnds file host_part old new TooLong = IsOverLimit (old.store.held file) FILE_LIMIT
     × RoseBy (FILE_LIMIT + 1) old.store.taken new.store.taken × (new.out ≡ old.out)
-    × GotLineOf (too_long_line file FILE_LIMIT) old.err new.err
-ConvertEnds file host_part old new Memory = (new.out ≡ old.out) × GotLineOf memory_line old.err new.err
-ConvertEnds file host_part old new status = (text : List ℕ) × IsText (old.store.held file) text
+    × GotLineOf (too_long_line file FILE_LIMIT) old.err new.err × GivesNone old.store new.store
+ConvertEnds file host_part old new Memory =
+    (new.out ≡ old.out) × GotLineOf memory_line old.err new.err × MayGive file old.store new.store
+ConvertEnds file host_part old new status = (text : List ℕ) × IsText file old.store new.store text
     × ConvertsText host_part text old.out new.out old.err new.err status
 
 -- The file was read once, and the read failed exactly where the status says so. If memory ran out, it may not have been

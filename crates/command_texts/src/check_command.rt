@@ -63,12 +63,13 @@ fn check_file<'a, S: Store, O: Sink, P: Patterns>(
     out: &mut O,
     patterns: &mut P,
 ) -> Ending<'a>
-    ensures cause { CheckCause name.now ((S.report store.old).held name.now) result }
+    ensures cause { CheckCause name.now (S.report store.old) (S.report store.new) result }
     ensures reads { ReadsFiles (name.now ∷ []) (IsReadOnce result) (S.report store.old).reads
         (S.report store.new).reads result }
     ensures taken { TookMore result (S.report store.old).taken (S.report store.new).taken }
-    ensures writes { CheckWrites ((S.report store.old).held name.now) (P.report patterns.old)
-        (P.report patterns.new) (O.report out.old) (O.report out.new) result }
+    ensures writes { CheckWrites name.now (S.report store.old) (S.report store.new)
+        (P.report patterns.old) (P.report patterns.new) (O.report out.old) (O.report out.new)
+        result }
     ensures quiet { IsComplete result → ((S.report store.new).faults ≡ (S.report store.old).faults)
         × ((O.report out.new).faults ≡ (O.report out.old).faults) }
     ensures read_fault { status_of result ≡ Status.ReadFault →

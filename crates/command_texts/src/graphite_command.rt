@@ -14,8 +14,8 @@ use ports::{Sink, Store};
 use std::alloc::Global;
 
 /// Carries out `graphite FILE`, and with a `host_part`, from 1 to 64, `graphite FILE --host K`: it reads lines after
-/// Graphite's plain text, and writes one frame of one event for each line that is accepted to `out`, in one put. Then a
-/// line for each that is refused goes to `err`.
+/// Graphite's plain text, and writes one frame of one event for each line that is accepted to `out`. Then a line for
+/// each that is refused goes to `err`.
 ///
 /// | Status | When | Line on `err` |
 /// |---|---|---|

@@ -10,17 +10,14 @@ use Rattle.sexp_read.specs.Gives.{IsFault}
 use Rattle.sexp_read.specs.Tokens as forms
 use Rattle.sexp_read.specs.Grammar.{IsForms, text_fault}
 use Rattle.sexp_read.specs.Tree.{FormTrees}
-use Rattle.config_terms.specs.declared.fault.ConfigFault.{ConfigFault}
-use Rattle.config_terms.specs.declared.fault.ConfigFault.TheVariants as config_fault
 use Rattle.config_terms.specs.declared.fault.ConfigWhy.{ConfigWhy}
 use Rattle.config_terms.specs.declared.fault.ConfigWhy.TheVariants as cause
-use Rattle.config_terms.specs.Steps as steps
 use Rattle.config_terms.specs.Steps.{Fault}
 use Rattle.config_tests.specs.declared.entry.Test.{Test}
 use Rattle.config_tests.specs.declared.fault.TestFault.{TestFault}
 use Rattle.config_tests.specs.declared.fault.TestFault.TheVariants.{Refused, Memory}
-use Rattle.config_tests.specs.Tests.{tests_of, read_without_names, AreTestsOf, IsReadingFault, IsTestsFault}
-use Rattle.config_tests.specs.Tests.{IsRefusedFor, AreReadAs, IsRefusedAs, Fails, TestsGive, fault_by, fault_in, why_of}
+use Rattle.config_tests.specs.Tests.{tests_of, AreTestsOf, IsReadingFault, IsTestsFault}
+use Rattle.config_tests.specs.Tests.{IsRefusedFor, AreReadAs, IsRefusedAs, TestsGive, fault_in, why_of}
 use Rattle.config_tests.specs.Events.{IsShort}
 use Rattle.config_tests.proofs.ShortLaws.{tests_short}
 use Rattle.config_tests.proofs.TestsRead.{tests_are_read, faults_are_first}
@@ -41,14 +38,6 @@ pub read_short : (text : List ℕ) (tests : List Test) → AreTestsOf text tests
 read_short text tests are = tests_short are.forms tests (tests_read_of text tests are)
 
 -- ---- forms that are refused
-
-pub fails_without_names : (read : Result (List Test) Fault) (fault : ConfigFault) (made : TestFault)
-    → steps.Fails fault read → made ≡ fault_by fault → Fails made (read_without_names read)
-fails_without_names read (config_fault.Refused place why) made fails e =
-    subst (λ (f : TestFault). Fails f (read_without_names read)) (sym e)
-    (ap (λ (r : Result (List Test) Fault). read_without_names r) fails)
-fails_without_names read config_fault.Memory made fails e =
-    subst (λ (f : TestFault). Fails f (read_without_names read)) (sym e) tt
 
 -- ---- the text is forms
 

@@ -1,5 +1,5 @@
 -- Where and for what forms are refused that are not tests: the first fault in reading order, as a relation. Each case
--- belongs to a row of the table of refusals in docs/STREAM_TESTS.md. What comes before a fault represents something by
+-- belongs to a row of the table of refusals in docs/SCRIPTS.md. What comes before a fault represents something by
 -- the grammar.
 use Rattle.std.specs.Prelude.{◌≡◌, ℕ, ℤ, ◌+◌, ◌<◌, ◌≤◌, ◌&&◌, true, false, if◌then◌else◌, List, []}
 use Rattle.ev_types.specs.declared.field.Field.{Field}

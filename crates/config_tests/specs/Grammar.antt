@@ -1,5 +1,5 @@
 -- The grammar of tests, as a relation: which forms, apart from their places, represent which tests. Each case belongs
--- to a row of the table of forms in docs/STREAM_TESTS.md, or to what the page says of maps and items. No names are
+-- to a row of the table of forms in docs/SCRIPTS.md, or to what the page says of maps and items. No names are
 -- bound in tests.
 use Rattle.std.specs.Prelude.{◌≡◌, ℕ, ◌+◌, ◌≤◌, Bool, true, false, List, [], ◌∷◌, ◌++◌, codes, Some, None}
 use Rattle.std.specs.List.{list_any}

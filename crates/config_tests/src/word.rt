@@ -6,7 +6,7 @@ ghost use Rattle.config_tests.specs.Words.{entry_word};
 use ev_types::Text;
 
 /// A word that begins an entry of a test.
-#[derive(Clone, Copy, Debug, PartialEq, Eq)]
+#[derive(Clone, Copy, PartialEq, Eq)]
 pub(crate) enum EntryWord {
     Tick,
     Event,

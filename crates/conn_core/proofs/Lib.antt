@@ -1,5 +1,6 @@
 pub use Rattle.hub_link.proofs.HubMeaningLinkLaws
 pub use Rattle.hub_link.proofs.HubMeaningPrefixLaws
+pub use Rattle.hub_link.proofs.HubMeaningRunLaws
 pub use Rattle.hub_link.proofs.MsgRepliesVerdictLaws
 pub mod Numbers
 pub mod Splits

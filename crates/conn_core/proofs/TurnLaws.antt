@@ -90,6 +90,12 @@ none_in config Stopped piece state = refl
 none_in config Failed piece state = refl
 none_in config NoMemory piece state = refl
 
+-- that a turn stopped is no part of what a hub represents
+pub stopped_or_not : (hub : Hub) (t : Bool) (config : CoreConfig) (state : RunState) → RepresentsState hub config state
+    → RepresentsState (record hub { stopped = t }) config state
+stopped_or_not hub t config state at =
+    record { arrivals = at.arrivals; config_is = at.config_is; now = at.now; links = at.links }
+
 module _ (turn : Turn) (piece : List ℕ) (hub : Hub) (config : CoreConfig) (steps : List Step)
     (is : is_turn_answer turn.what ≡ true) (follows : Follows hub config steps) where
   turned_is : (verdicts : List (Option Refusal))
@@ -157,7 +163,7 @@ module _ (turn : Turn) (piece : List ℕ) (hub : Hub) (config : CoreConfig) (ste
       → ((arrivals : List Arrival) → Represents hub.core arrivals
       → Arrives hub.core core' arrivals (replicate (next_moment (now_of hub.core) turn.secs - now_of hub.core) Elapsed)
       old new)
-      → RepresentsState (record hub { core = core' }) config
+      → RepresentsState (record hub { core = core'; stopped = true }) config
       (passed (next_moment (state_after config steps).now turn.secs) (state_after config steps))
   passed_at core' old new now arrives =
       let at = follows.state in
@@ -201,7 +207,7 @@ module _ (turn : Turn) (piece : List ℕ) (hub : Hub) (config : CoreConfig) (ste
       }
 
   -- all was done but the lines
-  pub turns_reported : (one hub' : Hub) (patterns patterns' : PatternsReport) (middle : Reported)
+  pub turns_reported : (one two hub' : Hub) (patterns patterns' : PatternsReport) (middle : Reported)
       (notices : List Notice) (forks forks' : ℕ) (text text' : SinkReport) (result : Result (Unit {0}) Stop)
       (run : List Entry)
       → ((arrivals : List Arrival) → Represents hub.core arrivals
@@ -209,12 +215,13 @@ module _ (turn : Turn) (piece : List ℕ) (hub : Hub) (config : CoreConfig) (ste
       (replicate (next_moment (now_of hub.core) turn.secs - now_of hub.core) Elapsed) (reported [] forks) middle)
       → RepresentsState one config
       (passed (next_moment (state_after config steps).now turn.secs) (state_after config steps))
-      → OccursFrom turn.what piece one hub' patterns patterns' middle (reported notices forks') (Ok tt) run
+      → OccursFrom turn.what piece one two patterns patterns' middle (reported notices forks') (Ok tt) run
+      → ((after : RunState) → RepresentsState two config after → RepresentsState hub' config after)
       → OnOk result (GotLines text notices text') → OnErr result (GotPrefix text.text (lines_of notices) text'.text)
       → OnErr result (GotFirstLines text notices text') → (result ≡ Err SinkFault → notices ≢ [])
       → Turns turn piece hub hub' patterns patterns' forks forks' text text' result config steps run
-  turns_reported one hub' patterns patterns' middle notices forks forks' text text' result run arrives at occurs lines
-      front first_lines some =
+  turns_reported one two hub' patterns patterns' middle notices forks forks' text text' result run arrives at occurs
+      keeps lines front first_lines some =
       let occurred_so =
       occurs config (passed (next_moment (state_after config steps).now turn.secs) (state_after config steps)) at
       follows.settled in
@@ -254,7 +261,7 @@ module _ (turn : Turn) (piece : List ℕ) (hub : Hub) (config : CoreConfig) (ste
         some = some;
         follows = on_ok_from result (record {
           legal = longer_legal verdicts run occurred_so.possible occurred_so.legal;
-          state = subst (RepresentsState hub' config) (sym is) done.at;
+          state = subst (RepresentsState hub' config) (sym is) (keeps _ done.at);
           settled = subst (λ (s : RunState). AreSettled s.links) (sym is) done.settled;
         });
         counted = on_ok_from result (ap (λ (xs : List Arrival). forks + forks_by config xs) arrivals ∙ both.forks);

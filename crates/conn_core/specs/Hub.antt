@@ -1,5 +1,5 @@
 -- What a hub represents.
-use Rattle.std.specs.Prelude.{◌≡◌, List}
+use Rattle.std.specs.Prelude.{◌≡◌, Bool, List}
 use Rattle.hub_link.specs.event_core.Core.{CoreConfig, Represents, config_of, now_of}
 use Rattle.hub_link.specs.event_core.declared.arrivals.Core.{Core}
 use Rattle.hub_link.specs.hub_meaning.Legal.{AreSettled, IsLegal}
@@ -14,6 +14,10 @@ core_of hub = hub.core
 -- what it waits for on its links
 abbrev pub wants_in : Hub → List Want
 wants_in hub = hub.table.wants
+
+-- a turn stopped: no other is taken
+abbrev pub has_stopped : Hub → Bool
+has_stopped hub = hub.stopped
 
 -- its core and its links are as in this state
 pub record RepresentsState (hub : Hub) (config : CoreConfig) (state : RunState) : Type 0 where

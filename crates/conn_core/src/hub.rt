@@ -1,5 +1,5 @@
-ghost use Rattle.std.specs.Prelude.{◌≡◌, ◌≢◌, ◌-◌, ℕ, [], List, replicate, IfOk, OnOk};
-ghost use Rattle.conn_core.specs.Hub.{core_of, wants_in, Follows};
+ghost use Rattle.std.specs.Prelude.{◌≡◌, ◌≢◌, ◌-◌, ℕ, true, false, [], List, replicate, IfOk, OnErr, OnOk};
+ghost use Rattle.conn_core.specs.Hub.{core_of, has_stopped, wants_in, Follows};
 ghost use Rattle.conn_core.specs.Known.{Answered, AreUnclosed, IsOpenedBy};
 ghost use Rattle.conn_core.specs.Occurring.{OccursFrom};
 ghost use Rattle.conn_core.specs.Turning.{TurnsFrom};
@@ -24,13 +24,15 @@ use pred_eval::Patterns;
 use std::alloc::Global;
 use step_count::{Ledger, Steps};
 
-/// A server's core, and its links. After a [`Stop`] nothing is known of a hub.
+/// A server's core, and its links. After a [`Stop`] nothing is known of a hub but that it stopped.
 #[derive(Drop)]
 pub struct Hub {
     core: Core,
     table: LinkTable<HubLink>,
     // Memory that messages are read into.
     spare: Spare,
+    // A turn stopped: no other is taken.
+    stopped: bool,
 }
 
 impl Hub {
@@ -40,11 +42,13 @@ impl Hub {
             Follows hub (config_of core) []) }
         ensures core { IfOk result (λ hub. core_of hub ≡ core) }
         ensures wants { IfOk result (λ hub. wants_in hub ≡ []) }
+        ensures going { IfOk result (λ hub. has_stopped hub ≡ false) }
     {
         Ok(Hub {
             core,
             table: LinkTable::fresh(alloc),
             spare: Spare::fresh(alloc),
+            stopped: false,
         })
     }
 
@@ -64,7 +68,7 @@ impl Hub {
 
     /// One turn: the seconds up to its moment pass, and then comes what occurred on a link, with the bytes of a read in
     /// `piece`. That link is sent what is unsent, and it is closed if it is over. At the end the notices of the turn
-    /// are written as lines, in order, each in one put.
+    /// are written as lines, in order, each in one put. Once a turn stopped, no other is taken.
     pub fn turn<L: Links, O: Sink, P: Patterns, G: Ledger>(
         &mut self,
         alloc: Global,
@@ -75,10 +79,13 @@ impl Hub {
         patterns: &mut P,
         steps: &mut Steps<G>,
     ) -> Result<(), Stop>
+        requires going { has_stopped self.old ≡ false }
         requires failed { turn.what ≢ What.Failed }
         requires memory { turn.what ≢ What.Memory }
         requires known { AreUnclosed (L.report links.old).log (wants_in self.old) }
         requires answered { Answered (L.report links.old).log turn }
+        ensures going { OnOk result (has_stopped self.new ≡ false) }
+        ensures stopped { OnErr result (has_stopped self.new ≡ true) }
         ensures known { OnOk result (AreUnclosed (L.report links.new).log (wants_in self.new)) }
         ensures turns { Added (L.report links.old) (L.report links.new)
             (TurnsFrom turn piece.now self.old self.new (P.report patterns.old)
@@ -90,6 +97,7 @@ impl Hub {
             (O.report sink.old).faults }
         ensures no_fault { OnOk result ((O.report sink.new).faults ≡ (O.report sink.old).faults) }
     {
+        self.stopped = true;
         let mut notices = Notices::fresh(alloc);
         pass(alloc, &mut self.core, turn.secs, &mut notices, steps)?;
         self.occur(
@@ -102,6 +110,7 @@ impl Hub {
             steps,
         )?;
         write_lines(alloc, notices.as_slice(), sink)?;
+        self.stopped = false;
         Ok(())
     }
 
@@ -118,6 +127,7 @@ impl Hub {
     ) -> Result<(), Memory>
         requires known { AreUnclosed (L.report links.old).log (wants_in self.old) }
         requires opened { IsOpenedBy (L.report links.old).log what }
+        ensures stopped { has_stopped self.new ≡ has_stopped self.old }
         ensures known { OnOk result (AreUnclosed (L.report links.new).log (wants_in self.new)) }
         ensures occurs { Added (L.report links.old) (L.report links.new)
             (OccursFrom what piece.now self.old self.new (P.report patterns.old)
@@ -144,6 +154,7 @@ impl Hub {
         steps: &mut Steps<G>,
     ) -> Result<(), Memory>
         requires { AreUnclosed (L.report links.old).log (wants_in self.old) }
+        ensures stopped { has_stopped self.new ≡ has_stopped self.old }
         ensures known { OnOk result (AreUnclosed (L.report links.new).log (wants_in self.new)) }
         ensures occurs { (count : ℕ) → Added (L.report links.old) (L.report links.new)
             (OccursFrom (What.Read number count) piece.now self.old self.new (P.report patterns.old)

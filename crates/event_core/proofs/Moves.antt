@@ -51,12 +51,6 @@ handled-notices out_a out_b out_c done output first second =
     ∙ append_assoc out_a (notices_among done) (notices_among (output ∷ []))
     ∙ ap (λ all. out_a ++ all) (sym (notices-append done (output ∷ [])))
 
--- no step is a way
-pub moved-none : (plan : StreamTrees) (streams : IndexedStreams) (state : CoreState) (out : List Notice) (forks : ℕ)
-    → Holds streams state → Moved plan streams state state out forks out forks
-moved-none plan streams state out forks holds =
-    record { holds = holds; made = []; reported = sym (append-nil out); grew = sym (append-nil _); forks = refl }
-
 -- what two ways report is what they report together
 pub both-fronts : (a b c : List Notice) → (first : List Notice) × (b ≡ a ++ first)
     → (second : List Notice) × (c ≡ b ++ second) → (more : List Notice) × (c ≡ a ++ more)

@@ -121,10 +121,6 @@ pub visited-equal : (plan : StreamTrees) (shown event : Event) (state : CoreStat
 visited-equal plan shown event state a b same visited =
     subst (λ (e : Event). Visited plan state (entered plan (In (One e)) state) a b) same visited
 
-pub visited-reap : (plan : StreamTrees) (state : CoreState) (a b : ℕ)
-    → b ≤ a + 2 * expired_in (moment_of state.history) state.log → Visited plan state (with_reap state) a b
-visited-reap plan state a b within = let first = visits-reap plan state in omega (arith, first, within)
-
 pub visited-then : (plan : StreamTrees) (before between after : CoreState) (a b c : ℕ) → Visited plan before between a b
     → Visited plan between after b c → Visited plan before after a c
 visited-then plan before between after a b c first second = omega (arith, first, second)

@@ -3,10 +3,9 @@ use Rattle.std.proofs.Common.{◌≡◌, ℕ, ◌≤◌, ◌==◌, ◌↔◌, Bo
 use Rattle.std.proofs.Common.{refl, ap, sym, ◌∙◌, subst, arith, append-nil}
 use Rattle.std.specs.Prelude.{IsTrue, Option, Result, Ok, Err, OnOk, nat_lt}
 use Rattle.std.proofs.lemmas.Bool.{eqb-true}
-use Rattle.std.proofs.lemmas.Bool.Decides.{nat_tests}
 use Rattle.msg_replies.specs.event_core.declared.arrivals.Core.{Core}
 use Rattle.msg_replies.specs.event_core.Core.{CoreConfig, config_of, now_of}
-use Rattle.framing.specs.Frames.{IsOversized, frames_of, partial}
+use Rattle.framing.specs.Frames.{frames_of, partial}
 use Rattle.framing.proofs.FrameLaws.{partial_append, partial_of_nothing}
 use Rattle.list_laws.specs.declared.memory.Memory.{Memory}
 use Rattle.msg_replies.specs.hub_meaning.Legal.{ArePossible, AreVerdicts, MayClose, MayCloseAs, VerdictsIf}
@@ -15,7 +14,7 @@ use Rattle.msg_replies.specs.hub_meaning.Links.{is_open_stage, is_read_closed_st
 use Rattle.msg_replies.specs.hub_meaning.Links.{with_stage}
 use Rattle.msg_replies.specs.hub_meaning.declared.stage.Stage.{Stage}
 use Rattle.msg_replies.specs.hub_meaning.declared.stage.Stage.TheVariants.{Open, ReadClosed, Closing, Closed}
-use Rattle.msg_replies.specs.hub_meaning.Runs.{RunState, Talk, all_answered, answered, cut_off, is_oversized}
+use Rattle.msg_replies.specs.hub_meaning.Runs.{RunState, Talk, all_answered, answered, cut_off}
 use Rattle.msg_replies.specs.hub_meaning.Runs.{messages_in, new_frames, talk_of}
 use Rattle.msg_replies.specs.hub_meaning.Verdicts.{Message, PatternsReport, Refusal, judged}
 use Rattle.msg_replies.proofs.HubMeaningRunLaws.{new_frames_rest}
@@ -208,9 +207,6 @@ module _ (piece : List ℕ) (link : HubLink) (core core' : Core) (patterns patte
   hears_cut one link' (Err memory) frames number keeps cut = hears_in_part link' memory (Ok tt) frames
 
 -- ---- a length over the limit
-
-oversized_test : (bytes : List ℕ) → IsOversized bytes → is_oversized bytes ≡ true
-oversized_test bytes over = let head = over.head in let above = over.over in grind (arith, nat_tests)
 
 -- ---- what changes a link
 

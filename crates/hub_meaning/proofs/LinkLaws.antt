@@ -15,11 +15,6 @@ pub all_append : {X : Type 0} (P : X → Type 0) (xs ys : List X) → AllByRecur
 all_append P [] ys first second = second
 all_append P (x ∷ xs) ys first second = (first.0, all_append P xs ys first.1 second)
 
-pub all_weaken : {X : Type 0} (P Q : X → Type 0) → ((x : X) → P x → Q x) → (xs : List X) → AllByRecursion P xs
-    → AllByRecursion Q xs
-all_weaken P Q f [] all = tt
-all_weaken P Q f (x ∷ xs) all = (f x all.0, all_weaken P Q f xs all.1)
-
 choice : (P : Link → Type 0) (t : Bool) (a b : Link) → (t ≡ true → P a) → P b → P (cond t a b)
 choice P true a b first second = first refl
 choice P false a b first second = second

@@ -81,11 +81,6 @@ pub record IsSound (state : RunState) : Type 0 where
   pub rising : AreRising state.links
   pub sent : AllByRecursion SentPrefix state.links
 
-talk_number : (config : CoreConfig) (now : ℕ) (messages : List Message) (talk : Talk)
-    → (all_answered config now messages talk).link.number ≡ talk.link.number
-talk_number config now [] talk = refl
-talk_number config now (message ∷ messages) talk = talk_number config now messages (answered config now message talk)
-
 cut_off_number : (link : Link) → (cut_off link).number ≡ link.number
 cut_off_number link =
     choice (λ l. l.number ≡ link.number) (is_oversized (partial link.came))

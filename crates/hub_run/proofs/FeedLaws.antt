@@ -71,7 +71,7 @@ rule_same : (t : Bool) (count : ℕ) (rule other : SendRule) → rule ≡ takes_
 rule_same true count rule other is same = ap (λ (r : SendRule). rule_after r count) is
 rule_same false count rule other is same = same
 
-quiet_played : (play : Playing) (entry : Entry) → IsQuiet play → IsQuiet (played play entry)
+pub quiet_played : (play : Playing) (entry : Entry) → IsQuiet play → IsQuiet (played play entry)
 quiet_played play (Listen address answer) quiet = quiet
 quiet_played play (Next wants turn piece) quiet = record {
   gentle = gentle_rest play.steps play.secs quiet.gentle;
@@ -85,7 +85,7 @@ quiet_played play (Send link bytes answer) quiet = record {
 }
 quiet_played play (Close link) quiet = quiet
 
-took_all : (play : Playing) (link : ℕ) (bytes : List ℕ) (answer : SendAnswer) → IsQuiet play
+pub took_all : (play : Playing) (link : ℕ) (bytes : List ℕ) (answer : SendAnswer) → IsQuiet play
     → IsAnswered play (Send link bytes answer) → answer ≡ Took (length bytes)
 took_all play link bytes answer quiet is = is ∙ ap (λ (r : SendRule). send_answer r (length bytes)) (quiet.takes link)
 
@@ -160,7 +160,7 @@ reads_are_gentle : (pieces : List (List ℕ))
 reads_are_gentle [] = (tt, tt)
 reads_are_gentle (piece ∷ pieces) = (tt, reads_are_gentle pieces)
 
-begun_quiet : (limit : ℕ) (bytes : List ℕ) → IsQuiet (begun (feed_script limit bytes))
+pub begun_quiet : (limit : ℕ) (bytes : List ℕ) → IsQuiet (begun (feed_script limit bytes))
 begun_quiet limit bytes = record {
   gentle = (refl, reads_are_gentle (pieces_of limit bytes));
   takes = λ link. refl;

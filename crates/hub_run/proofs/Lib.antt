@@ -12,3 +12,4 @@ pub mod EntryLaws
 pub mod PrefixLaws
 pub mod FreeLaws
 pub mod FeedLaws
+pub mod PostLaws

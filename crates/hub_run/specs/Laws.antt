@@ -1,9 +1,14 @@
 -- Laws of runs.
-use Rattle.std.specs.Prelude.{◌≡◌, ℕ, List, ◌∷◌}
+use Rattle.std.specs.Prelude.{◌≡◌, ℕ, ◌+◌, ◌<◌, List, [], ◌∷◌, length}
+use Rattle.std.specs.List.{AllByRecursion, flat_map}
 use Rattle.conn_core.specs.event_core.Core.{CoreConfig}
 use Rattle.conn_core.specs.hub_meaning.Legal.{AreSettled, IsLegal}
+use Rattle.conn_core.specs.hub_meaning.Messages.{posts_of}
 use Rattle.conn_core.specs.hub_meaning.Runs.{state_after}
-use Rattle.hub_run.specs.Taken.{TakenTurn, entries_of, steps_of}
+use Rattle.framing.specs.Frames.{frames_of, partial}
+use Rattle.hub_run.specs.Runs.{config_at, opening}
+use Rattle.hub_run.specs.Taken.{HasEnded, IsOneTurn, TakenTurn, entries_of, steps_of}
+use Rattle.hub_run.specs.declared.setup.Setup.{Setup}
 use Rattle.list_laws.specs.Prefix.{IsPrefix}
 use Rattle.ports.specs.Pieces.{feed_script}
 use Rattle.ports.specs.Playing.{IsScriptedRun, bytes_taken}
@@ -29,3 +34,12 @@ FeedsAreAnswered = (config : CoreConfig) (limit : ℕ) (bytes address : List ℕ
     → IsLegal config (steps_of turns)
     → AreSettled (state_after config (steps_of turns)).links
     → bytes_taken 0 (entries_of turns) ≡ replies_on 0 (state_after config (steps_of turns)).links
+
+-- Links that feed bytes of which nothing is left after the last whole frame: by the last turn the events of all messages
+-- were posted, in order, at moment 0. More turns may be taken than there are for these bytes.
+abbrev pub FeedsArePosted : Type 0
+FeedsArePosted = (setup : Setup) (limit most : ℕ) (bytes : List ℕ) (secs : ℕ) (turns : List TakenTurn)
+    → 0 < limit → length bytes + 2 < most → partial bytes ≡ []
+    → IsScriptedRun (feed_script limit bytes) (opening setup secs ∷ entries_of turns)
+    → IsLegal (config_at setup secs) (steps_of turns) → AllByRecursion IsOneTurn turns → HasEnded most turns
+    → (state_after (config_at setup secs) (steps_of turns)).arrivals ≡ flat_map (posts_of 0) (frames_of bytes)

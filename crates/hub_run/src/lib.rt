@@ -11,6 +11,6 @@ mod turn;
 pub use conn_core;
 pub use conn_core::{event_core, hub_meaning};
 pub use fault::RunFault;
-pub use law::{feeds_are_answered, sends_are_taken};
+pub use law::{feeds_are_answered, feeds_are_posted, sends_are_taken};
 pub use server::{run, run_quietly};
 pub use setup::Setup;

@@ -1,5 +1,5 @@
-ghost use Rattle.std.specs.Prelude.{◌≡◌, ◌≢◌, Err, OnOk, length, nat_lt};
-ghost use Rattle.conn_core.specs.Hub.{wants_in};
+ghost use Rattle.std.specs.Prelude.{◌≡◌, ◌≢◌, false, Err, OnOk, length, nat_lt};
+ghost use Rattle.conn_core.specs.Hub.{has_stopped, wants_in};
 ghost use Rattle.conn_core.specs.Known.{AreUnclosed};
 ghost use Rattle.ev_types.specs.Interval.{IsInterval};
 ghost use Rattle.hub_run.specs.Quiet.{RunsQuietly, TakesAllQuietly, TakesQuietly};
@@ -99,6 +99,7 @@ fn take_turns<L: Links, O: Sink, P: Patterns, G: Ledger>(
 ) -> Result<(), RunFault>
     requires whole { length buf.old ≡ PIECE_LIMIT }
     requires known { AreUnclosed (L.report links.old).log (wants_in hub.old) }
+    requires going { has_stopped hub.old ≡ false }
     ensures takes { AddsRun (L.report links.old) (L.report links.new)
         (TakesAllQuietly hub.old hub.new turns quiet
         (run_report (P.report patterns.old) steps.old.forks (O.report sink.old))
@@ -135,6 +136,8 @@ fn take_next<L: Links, O: Sink, P: Patterns, G: Ledger>(
 ) -> Result<Turn, RunFault>
     requires whole { length buf.old ≡ PIECE_LIMIT }
     requires known { AreUnclosed (L.report links.old).log (wants_in hub.old) }
+    requires going { has_stopped hub.old ≡ false }
+    ensures going { OnOk result (has_stopped hub.new ≡ false) }
     ensures known { OnOk result (AreUnclosed (L.report links.new).log (wants_in hub.new)) }
     ensures takes { AddsRun (L.report links.old) (L.report links.new)
         (TakesQuietly (nat_lt taken quiet) hub.old hub.new

@@ -1,5 +1,5 @@
-ghost use Rattle.std.specs.Prelude.{◌≡◌, ◌≢◌, [], vec_len, Err, IfOk};
-ghost use Rattle.conn_core.specs.Hub.{Follows, wants_in};
+ghost use Rattle.std.specs.Prelude.{◌≡◌, ◌≢◌, false, [], vec_len, Err, IfOk};
+ghost use Rattle.conn_core.specs.Hub.{Follows, has_stopped, wants_in};
 ghost use Rattle.ev_types.specs.Interval.{IsInterval};
 ghost use Rattle.hub_run.specs.Runs.{AddsRun, config_at};
 ghost use Rattle.hub_run.specs.Taking.{ListensOn};
@@ -45,6 +45,7 @@ pub(crate) fn open_hub(alloc: Global, setup: Setup, secs: u64) -> Result<Hub, Me
     requires interval { IsInterval setup.expiry }
     ensures follows { IfOk result (λ hub. Follows hub (config_at setup secs) []) }
     ensures wants { IfOk result (λ hub. wants_in hub ≡ []) }
+    ensures going { IfOk result (λ hub. has_stopped hub ≡ false) }
 {
     let moment = secs.min(LATEST_MOMENT);
     let core = Core::fresh(alloc, setup.plan, setup.expiry, moment)?;

@@ -1,5 +1,5 @@
-ghost use Rattle.std.specs.Prelude.{◌≡◌, ◌≢◌, ◌↔◌, ◌≤◌, length, List, take, ℕ, Err, IfOk, IsTrue, OnOk};
-ghost use Rattle.conn_core.specs.Hub.{wants_in};
+ghost use Rattle.std.specs.Prelude.{◌≡◌, ◌≢◌, ◌↔◌, ◌≤◌, length, List, take, ℕ, false, Err, IfOk, IsTrue, OnOk};
+ghost use Rattle.conn_core.specs.Hub.{has_stopped, wants_in};
 ghost use Rattle.conn_core.specs.Known.{AreUnclosed};
 ghost use Rattle.hub_run.specs.Runs.{AddsRun, run_report};
 ghost use Rattle.hub_run.specs.Taking.{AsksFor, TakesTurn};
@@ -25,6 +25,8 @@ pub(crate) fn take_turn<L: Links, O: Sink, P: Patterns, G: Ledger>(
 ) -> Result<Turn, RunFault>
     requires whole { length buf.old ≡ PIECE_LIMIT }
     requires known { AreUnclosed (L.report links.old).log (wants_in hub.old) }
+    requires going { has_stopped hub.old ≡ false }
+    ensures going { OnOk result (has_stopped hub.new ≡ false) }
     ensures known { OnOk result (AreUnclosed (L.report links.new).log (wants_in hub.new)) }
     ensures takes { AddsRun (L.report links.old) (L.report links.new)
         (TakesTurn hub.old hub.new (run_report (P.report patterns.old) steps.old.forks

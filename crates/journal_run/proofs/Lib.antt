@@ -1,2 +1,3 @@
 pub mod RunLaws
 pub mod ResumeLaws
+pub mod CrashLaws

@@ -6,3 +6,4 @@ pub mod Reports
 pub mod Readings
 pub mod Refusals
 pub mod Silence
+pub mod Shares

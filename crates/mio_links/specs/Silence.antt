@@ -1,5 +1,5 @@
 -- Which link is given up for its silence.
-use Rattle.std.specs.Prelude.{◌≡◌, ℕ, ◌+◌, ◌<◌, ◌≤◌, nat_eq, List, length, Option, Some, None, ⊤}
+use Rattle.std.specs.Prelude.{◌≡◌, ℕ, ◌+◌, ◌<◌, ◌≤◌, nat_eq, List, length, Option, Some, None, IsSome, ⊤}
 use Rattle.std.specs.List.{All}
 use Rattle.std.specs.Option.{option_map, ForSome}
 use Rattle.std.specs.HashMap.{get}
@@ -40,8 +40,8 @@ IsRecent secs (Some heard) = secs < heard + 600
 abbrev pub NoneIsGivenUp : Sockets → List Want → ℕ → Type 0
 NoneIsGivenUp sockets wants secs = 256 ≤ length wants → All (λ want. IsRecent secs (heard_of sockets want.link)) wants
 
--- a turn of the listener that breaks a link is of one that is given up
+-- a turn of the listener that breaks a link is of one that is given up, and a connection waits for its place
 abbrev pub GivesUp : Sockets → List Want → ℕ → What → Type 0
-GivesUp sockets wants secs (Broken link) =
+GivesUp sockets wants secs (Broken link) = IsSome sockets.arrived ×
     ForSome (heard_of sockets link) (λ heard. IsGivenUp sockets wants secs (record { link = link; secs = heard }))
 GivesUp sockets wants secs _ = ⊤

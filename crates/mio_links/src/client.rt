@@ -4,6 +4,7 @@ ghost use Rattle.ports.specs.Links.{IsPieceWithin, IsWithin};
 ghost use Rattle.mio_links.specs.Turns.{IsGiven, IsOn};
 ghost use Rattle.mio_links.specs.Streams.{EndsAtEnd, Took, piece_found};
 
+use crate::share::Share;
 use mio::event::Event;
 use ports::{PIECE_LIMIT, SendAnswer, Want, What};
 use std::io::{ErrorKind, Read, Write};
@@ -27,6 +28,8 @@ pub(crate) struct Client<S: Read + Write> {
     urgent: bool,
     /// The reading of the clock at its last turn.
     pub heard: u64,
+    /// How much of it is read at once.
+    pub share: Share,
     /// Where it waits for its next turn.
     pub waiting: Waiting,
 }
@@ -34,18 +37,22 @@ pub(crate) struct Client<S: Read + Write> {
 /// Where a client waits for its next turn.
 #[derive(Clone, Copy, PartialEq, Eq)]
 pub(crate) enum Waiting {
-    /// In neither of the two: it waits for a report of the system, or for a send that has to be tried again.
+    /// In none of these: it waits for a report of the system, or for a send that has to be tried again.
     Nowhere,
     /// In the queue.
     Queued,
+    /// Among those whose last read was dear, for the end of a round.
+    PutOff,
     /// Among those of which the server wants to hear nothing for now.
     HeldBack,
 }
 
 impl<S: Read + Write> Client<S> {
-    /// A client of which nothing was reported yet, and which was accepted at this reading of the clock.
-    pub(crate) fn fresh(stream: S, secs: u64) -> Client<S>
-        ensures { result.stream ≡ stream }
+    /// A client of which nothing was reported yet, and which was accepted at this reading of the clock. So much of it is
+    /// read at first.
+    pub(crate) fn fresh(stream: S, secs: u64, share: Share) -> Client<S>
+        ensures stream { result.stream ≡ stream }
+        ensures share { result.share ≡ share }
     {
         Client {
             stream,
@@ -56,6 +63,7 @@ impl<S: Read + Write> Client<S> {
             roomy: false,
             urgent: false,
             heard: secs,
+            share,
             waiting: Waiting::Nowhere,
         }
     }
@@ -103,6 +111,8 @@ impl<S: Read + Write> Client<S> {
     pub(crate) fn turn(&mut self, link: u64, want: &Want, buf: &mut [u8]) -> Option<What>
         requires { length buf.old ≡ PIECE_LIMIT }
         ensures within { IfSome result (IsPieceWithin PIECE_LIMIT) }
+        ensures share { IfSome result (IsPieceWithin self.new.share.bytes) }
+        ensures same_share { self.new.share ≡ self.old.share }
         ensures given { IfSome result IsGiven }
         ensures link { IfSome result (IsOn link) }
 
@@ -129,13 +139,15 @@ impl<S: Read + Write> Client<S> {
     fn read(&mut self, link: u64, buf: &mut [u8]) -> Option<What>
         requires { length buf.old ≡ PIECE_LIMIT }
         ensures within { IfSome result (IsPieceWithin PIECE_LIMIT) }
+        ensures share { IfSome result (IsPieceWithin self.new.share.bytes) }
+        ensures same_share { self.new.share ≡ self.old.share }
         ensures given { IfSome result IsGiven }
         ensures link { IfSome result (IsOn link) }
         ensures bytes { Consumes (S.remaining self.old.stream) (S.remaining self.new.stream)
             (piece_found result buf.new) }
         ensures end { IfSome result (EndsAtEnd (S.remaining self.new.stream)) }
     {
-        match self.stream.read(buf) {
+        match self.stream.read(&mut buf[..self.share.bytes]) {
             Ok(0) => {
                 self.readable = false;
                 Some(What::Ended { link })
@@ -143,7 +155,7 @@ impl<S: Read + Write> Client<S> {
             Ok(count) => {
                 // A short read has emptied the socket, but for one that stopped at urgent data. What comes later is
                 // reported anew.
-                self.readable = count == PIECE_LIMIT || self.ending || self.urgent;
+                self.readable = count == self.share.bytes || self.ending || self.urgent;
                 Some(What::Read { link, count })
             }
             Err(error) => match error.kind() {
@@ -161,6 +173,7 @@ impl<S: Read + Write> Client<S> {
     fn break_off(&mut self, link: u64) -> What
         ensures what { result ≡ What.Broken link }
         ensures stream { self.new.stream ≡ self.old.stream }
+        ensures same_share { self.new.share ≡ self.old.share }
     {
         self.readable = false;
         self.failed = false;

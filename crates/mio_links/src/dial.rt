@@ -4,6 +4,7 @@ ghost use Rattle.mio_links.specs.Turns.{IsGiven, IsOn, OfLink};
 
 use crate::client::Client;
 use crate::fault::LinksFault;
+use crate::share::Share;
 use crate::sockets::want_of;
 use ev_types::Text;
 use mio::event::Event;
@@ -154,7 +155,7 @@ impl Dial {
             Attempt::Connected => {
                 // Requests are short, and do not wait for one another. A connection that is over already refuses this.
                 let _ = stream.set_nodelay(true);
-                self.client = Some(Client::fresh(stream, 0));
+                self.client = Some(Client::fresh(stream, 0, Share::whole()));
                 Ok(true)
             }
             Attempt::Waits => {

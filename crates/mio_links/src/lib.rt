@@ -9,10 +9,12 @@ mod fault;
 mod links;
 mod queue;
 mod readings;
+mod share;
 mod sockets;
 
 pub use accept::{Refusal, refusal_of};
 pub use dial_links::DialLinks;
 pub use links::MioLinks;
 pub use readings::Readings;
+pub use share::{LEAST_SHARE, Share};
 pub use sockets::Sockets;

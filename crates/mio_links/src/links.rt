@@ -1,11 +1,12 @@
-ghost use Rattle.std.specs.Prelude.{◌≡◌, ◌≢◌, ◌+◌, ◌<◌, ◌≤◌, [], ◌∷◌, length, nat_lt, if◌then◌else◌, IfOk, OnErr};
+ghost use Rattle.std.specs.Prelude.{◌≡◌, ◌≢◌, ◌+◌, ◌<◌, ◌≤◌, [], ◌∷◌, length, nat_lt, if◌then◌else◌, IfOk, OnErr, OnOk};
 ghost use Rattle.ev_types.specs.Clock.{seconds_per_turn_limit};
 ghost use Rattle.ports.specs.Calls.{AddsCalls};
 ghost use Rattle.ports.specs.Links.{HasListenCause, HasNextCause, IsPieceWithin, IsWithin, listen_entries, next_entries, send_entries};
 ghost use Rattle.ports.specs.declared.entry.Entry.TheVariants.{Close};
+ghost use Rattle.mio_links.specs.Readings.{BeginsAt, TookReading};
 ghost use Rattle.mio_links.specs.Reports.{report_of};
 ghost use Rattle.mio_links.specs.Turns.{CountsOpened, IsGiven, OfLink, OpensAt};
-ghost use Rattle.mio_links.specs.Sockets.{IsOpenOn};
+ghost use Rattle.mio_links.specs.Sockets.{IsOpenOn, IsWithinShareOn};
 
 use crate::fault::LinksFault;
 use crate::readings::Readings;
@@ -18,7 +19,7 @@ use ports::{
 };
 use std::alloc::Global;
 use std::net::Net;
-use std::time::{Clock, SystemTime, UNIX_EPOCH};
+use std::time::{Clock, CpuClock, Duration, SystemTime, UNIX_EPOCH};
 
 // How many sources the system reports at once, at most.
 const EVENTS_AT_ONCE: usize = 256;
@@ -29,10 +30,15 @@ const LONGEST_WAIT: u64 = 100;
 /// The links to clients over TCP, and the system's clock. Links are numbered from 0 in the order in which they open, and
 /// no turn is [`What::Stopped`].
 #[derive(Drop)]
-pub struct MioLinks<'a, R: Net + Clock> {
+pub struct MioLinks<'a, R: Net + Clock + CpuClock> {
     rt: &'a R,
     events: Events,
-    readings: Readings,
+    /// The readings of the clock since then.
+    pub readings: Readings,
+    // The link of the last turn, if that was a read.
+    last_read: Option<u64>,
+    // For how long this thread had used a processor before that turn.
+    used: Duration,
     /// The sockets of the last call of [`Links::listen`] that succeeded.
     pub sockets: Option<Sockets>,
     /// How many links opened so far.
@@ -43,7 +49,7 @@ pub struct MioLinks<'a, R: Net + Clock> {
     calls: CallLog,
 }
 
-impl<'a, R: Net + Clock> MioLinks<'a, R> {
+impl<'a, R: Net + Clock + CpuClock> MioLinks<'a, R> {
     /// Links of which none is open, and that do not listen yet.
     pub fn fresh(rt: &'a R, alloc: Global) -> Result<MioLinks<'a, R>, Memory>
         ensures opened { IfOk result (λ links. links.opened ≡ 0) }
@@ -54,6 +60,8 @@ impl<'a, R: Net + Clock> MioLinks<'a, R> {
             rt,
             events: Events::with_capacity(alloc, EVENTS_AT_ONCE)?,
             readings: Readings::first(0),
+            last_read: None,
+            used: Duration::ZERO,
             sockets: None,
             opened: 0,
             faults: 0,
@@ -67,6 +75,7 @@ impl<'a, R: Net + Clock> MioLinks<'a, R> {
         ensures faults { self.old.faults ≤ self.new.faults }
         ensures opened { self.new.opened ≡ self.old.opened }
         ensures calls { self.new.calls ≡ self.old.calls }
+        ensures readings { BeginsAt self.new.readings result }
     {
         match Sockets::open(self.rt, alloc, address) {
             Ok(sockets) => {
@@ -84,6 +93,24 @@ impl<'a, R: Net + Clock> MioLinks<'a, R> {
         }
     }
 
+    /// Keeps what the server took for the last turn, if that was a read: the time for which it used a processor since
+    /// that was asked for. So waits for a disk, which are as long for few bytes, do not count.
+    fn weigh_last_read(&mut self)
+        ensures opened { self.new.opened ≡ self.old.opened }
+        ensures faults { self.new.faults ≡ self.old.faults }
+        ensures calls { self.new.calls ≡ self.old.calls }
+        ensures readings { self.new.readings ≡ self.old.readings }
+    {
+        let read = self.last_read.take();
+        let Ok(used) = self.rt.thread_cpu_time() else {
+            return;
+        };
+        if let (Some(link), Some(sockets)) = (read, &mut self.sockets) {
+            sockets.weigh(link, used.saturating_sub(self.used));
+        }
+        self.used = used;
+    }
+
     /// What happens in the next turn, or why no turn can be given. The clock is read too, and its reading is the turn's
     /// time.
     fn found(&mut self, wants: &Wants, buf: &mut [u8]) -> Result<What, LinksFault>
@@ -91,11 +118,15 @@ impl<'a, R: Net + Clock> MioLinks<'a, R> {
         ensures within { IfOk result (IsPieceWithin PIECE_LIMIT) }
         ensures given { IfOk result IsGiven }
         ensures link { IfOk result (λ what. OfLink what (IsOpenOn self.new.sockets)) }
+        ensures share { IfOk result (IsWithinShareOn self.new.sockets) }
         ensures opened { IfOk result (CountsOpened self.old.opened self.new.opened) }
         ensures err { OnErr result (self.new.opened ≡ self.old.opened) }
         ensures faults { self.new.faults ≡ self.old.faults }
         ensures calls { self.new.calls ≡ self.old.calls }
+        ensures readings { OnOk result
+            (TookReading self.old.readings self.new.readings self.new.readings.last) }
     {
+        self.weigh_last_read();
         let Some(sockets) = &mut self.sockets else {
             return Err(LinksFault::Failed);
         };
@@ -106,6 +137,7 @@ impl<'a, R: Net + Clock> MioLinks<'a, R> {
         self.readings.take(seconds(self.rt));
         let what = sockets.next(self.opened, self.readings.last, wants, buf)?;
         self.opened = opened_after(self.opened, next_link, what);
+        self.last_read = read_link(what);
         Ok(what)
     }
 
@@ -118,8 +150,11 @@ impl<'a, R: Net + Clock> MioLinks<'a, R> {
         ensures faults { self.old.faults ≤ self.new.faults }
         ensures calls { self.new.calls ≡ self.old.calls }
         ensures link { OfLink result (IsOpenOn self.new.sockets) }
+        ensures share { IsWithinShareOn self.new.sockets result }
         ensures opened { CountsOpened self.old.opened self.new.opened result }
         ensures goes_on { result ≢ What.Stopped }
+        ensures readings { IsGiven result →
+            TookReading self.old.readings self.new.readings self.new.readings.last }
     {
         match self.found(wants, buf) {
             Ok(what) => what,
@@ -132,7 +167,7 @@ impl<'a, R: Net + Clock> MioLinks<'a, R> {
     }
 }
 
-impl<'a, R: Net + Clock> Links for MioLinks<'a, R> {
+impl<'a, R: Net + Clock + CpuClock> Links for MioLinks<'a, R> {
     ghost report = { λ links. report_of links.calls links.faults };
 
     #[tactic(auto, using(crate::proofs::ReportLemmas::reported))]
@@ -142,8 +177,9 @@ impl<'a, R: Net + Clock> Links for MioLinks<'a, R> {
             (listen_entries address.now result) }
         ensures cause { HasListenCause self.old.faults self.new.faults result }
 
-        // More than links must report: the numbers of links do not begin again.
+        // More than links must report: the numbers of links do not begin again, and the readings of the clock do.
         ensures opened { self.new.opened ≡ self.old.opened }
+        ensures readings { BeginsAt self.new.readings result }
     {
         let answer = self.listen_on(alloc, address);
         log_listen(&mut self.calls, address, answer);
@@ -159,11 +195,17 @@ impl<'a, R: Net + Clock> Links for MioLinks<'a, R> {
             (next_entries wants.now buf.new result) }
         ensures cause { HasNextCause self.old.faults self.new.faults result.what }
 
-        // More than links must report: the number of a link that opens, that a turn is of an open link, and that no
-        // turn is the last.
+        // More than links must report: the number of a link that opens, that a turn is of an open link, that a read
+        // has no more bytes than are read of its link at once, and that no turn is the last.
         ensures opened { CountsOpened self.old.opened self.new.opened result.what }
         ensures link { OfLink result.what (IsOpenOn self.new.sockets) }
+        ensures share { IsWithinShareOn self.new.sockets result.what }
         ensures goes_on { result.what ≢ What.Stopped }
+
+        // The second of a turn is the reading of the clock that was taken for it.
+        ensures second { result.secs ≡ self.new.readings.last }
+        ensures readings { IsGiven result.what →
+            TookReading self.old.readings self.new.readings result.secs }
     {
         let turn = Turn {
             what: self.what(wants, buf),
@@ -182,8 +224,9 @@ impl<'a, R: Net + Clock> Links for MioLinks<'a, R> {
             (send_entries link bytes.now result) }
         ensures no_fault { self.new.faults ≡ self.old.faults }
 
-        // More than links must report: it opens no link.
+        // More than links must report: it opens no link, and reads no clock.
         ensures opened { self.new.opened ≡ self.old.opened }
+        ensures readings { self.new.readings ≡ self.old.readings }
     {
         let answer = match &mut self.sockets {
             Some(sockets) => sockets.send(link, bytes),
@@ -200,13 +243,22 @@ impl<'a, R: Net + Clock> Links for MioLinks<'a, R> {
             (Close link ∷ []) }
         ensures no_fault { self.new.faults ≡ self.old.faults }
 
-        // More than links must report: its number is not given again.
+        // More than links must report: its number is not given again, and no clock is read.
         ensures opened { self.new.opened ≡ self.old.opened }
+        ensures readings { self.new.readings ≡ self.old.readings }
     {
         if let Some(sockets) = &mut self.sockets {
             sockets.close(link);
         }
         self.calls.closed(link);
+    }
+}
+
+/// The link of the turn, if it is a read.
+fn read_link(what: What) -> Option<u64> {
+    match what {
+        What::Read { link, .. } => Some(link),
+        _ => None,
     }
 }
 

@@ -1,15 +1,17 @@
-ghost use Rattle.std.specs.Prelude.{◌≡◌, ℕ, length, true, Option, Some, IfErr, IfNone, IfOk, IfSome, OnErr, OnOk};
+ghost use Rattle.std.specs.Prelude.{◌≡◌, ℕ, length, true, false, Option, Some, None, Ok, IsSome, IfErr, IfNone, IfOk, IfSome, OnErr, OnOk};
 ghost use Rattle.std.specs.HashMap.{IsUnchanged};
 ghost use Rattle.std.specs.IoError.{raw_os_error};
-ghost use Rattle.std.specs.Option.{ForSome};
+ghost use Rattle.std.specs.Duration.{as_nanos};
+ghost use Rattle.std.specs.Option.{option_map, ForSome};
 ghost use Rattle.ports.specs.Links.{IsPieceWithin, IsWithin};
-ghost use Rattle.mio_links.specs.Refusals.{IsOfListener};
+ghost use Rattle.mio_links.specs.Refusals.{IsOfLack, IsOfListener, IsOfOneConnection};
 ghost use Rattle.mio_links.specs.Turns.{IsGiven, IsOn, OfLink, OpensAt};
 
 use crate::accept::{Refusal, refusal_of};
 use crate::client::{Client, Waiting};
 use crate::fault::LinksFault;
 use crate::queue::{Queue, Source};
+use crate::share::Share;
 use ev_types::Text;
 use mio::event::Event;
 use mio::net::{TcpListener, TcpStream};
@@ -54,7 +56,9 @@ pub struct Sockets {
 }
 
 impl Sockets {
-    ghost use Rattle.mio_links.specs.Sockets.{has_link};
+    ghost use Rattle.mio_links.specs.Sockets.{has_link, share_of, IsWithinShare, MayHaveTurn};
+    ghost use Rattle.mio_links.specs.Shares.{is_long, weighed};
+    ghost use Rattle.mio_links.specs.Queues.{is_over};
     ghost use Rattle.mio_links.specs.Silence.{AreNoLonger, GivesUp, IsGivenUp, IsNoLonger, NoneIsGivenUp, heard_of};
 
     /// Listens on the first address of `HOST:PORT` on which it can. A host's name is looked up.
@@ -78,6 +82,18 @@ impl Sockets {
         })
     }
 
+    /// Keeps what the server took for the last read of the link.
+    pub(crate) fn weigh(&mut self, link: u64, taken: Duration)
+        ensures bytes { option_map (λ share. share.bytes) (share_of self.new link)
+            ≡ option_map (λ share. weighed share.bytes (as_nanos taken)) (share_of self.old link) }
+        ensures dear { option_map (λ share. share.is_dear) (share_of self.new link)
+            ≡ option_map (λ _. is_long (as_nanos taken)) (share_of self.old link) }
+    {
+        if let Some(client) = self.clients.get_mut(&link) {
+            client.share.weigh(taken);
+        }
+    }
+
     /// Asks the system what is ready, where each source that it reported before was served. It waits for at most `wait`
     /// milliseconds.
     pub(crate) fn refill(
@@ -85,8 +101,12 @@ impl Sockets {
         wants: &Wants,
         events: &mut Events,
         wait: u64,
-    ) -> Result<(), LinksFault> {
-        if self.queue.left() == 0 {
+    ) -> Result<(), LinksFault>
+        ensures goes_on { is_over self.old.queue ≡ false → self.new ≡ self.old }
+        ensures lack { OnOk result (is_over self.old.queue ≡ true → self.old.lacking ≡ true
+            → self.new.listening ≡ true) }
+    {
+        if self.queue.is_round_over() {
             self.ask(wants, events, wait)?;
         }
         Ok(())
@@ -107,6 +127,7 @@ impl Sockets {
         ensures link { IfOk result
             (λ what. OfLink what (λ link. has_link self.new link ≡ true)) }
         ensures opens { IfOk result (OpensAt next_link) }
+        ensures share { IfOk result (IsWithinShare self.new) }
     {
         for _ in 0..self.queue.left() {
             let Some(source) = self.queue.take() else {
@@ -120,14 +141,17 @@ impl Sockets {
     }
 
     /// Asks the system what is ready, and begins a round with it.
-    fn ask(&mut self, wants: &Wants, events: &mut Events, wait: u64) -> Result<(), LinksFault> {
+    fn ask(&mut self, wants: &Wants, events: &mut Events, wait: u64) -> Result<(), LinksFault>
+        ensures lack { OnOk result (self.old.lacking ≡ true → self.new.listening ≡ true) }
+    {
+        let lacking = self.lacking;
         self.release(wants)?;
         let wait = if self.queue.is_empty() { wait } else { 0 };
         self.poll.poll(events, Some(Duration::from_millis(wait)))?;
         for event in &*events {
             self.note(event)?;
         }
-        if self.lacking {
+        if lacking {
             self.lacking = false;
             self.queue_listener()?;
         }
@@ -170,7 +194,10 @@ impl Sockets {
 
     fn queue_listener(&mut self) -> Result<(), LinksFault>
         ensures memory { IfErr result (λ fault. fault ≡ LinksFault.Memory) }
+        ensures listens { OnOk result (self.new.listening ≡ true) }
         ensures clients { self.new.clients ≡ self.old.clients }
+        ensures lacking { self.new.lacking ≡ self.old.lacking }
+        ensures arrived { self.new.arrived ≡ self.old.arrived }
     {
         if !self.listening {
             self.listening = true;
@@ -195,6 +222,7 @@ impl Sockets {
         ensures link { IfOk result (λ found. IfSome found (λ what.
             OfLink what (λ link. has_link self.new link ≡ true))) }
         ensures opens { IfOk result (λ found. IfSome found (OpensAt next_link)) }
+        ensures share { IfOk result (λ found. IfSome found (IsWithinShare self.new)) }
         ensures untouched { OnErr result (IsUnchanged self.old.clients self.new.clients) }
     {
         match source {
@@ -223,7 +251,11 @@ impl Sockets {
         ensures given { IfOk result (λ found. IfSome found IsGiven) }
         ensures link { IfOk result (λ found. IfSome found (λ what.
             OfLink what (λ link. has_link self.new link ≡ true))) }
+        ensures share { IfOk result (λ found. IfSome found (IsWithinShare self.new)) }
         ensures on { IfOk result (λ found. IfSome found (IsOn link)) }
+
+        // One whose last read was dear has its turn after all others of the round.
+        ensures dear_last { IfOk result (λ found. IfSome found (λ _. MayHaveTurn self.old link)) }
 
         // Where memory runs out, nothing was read.
         ensures untouched { OnErr result (self.new.clients ≡ self.old.clients) }
@@ -232,6 +264,10 @@ impl Sockets {
         let Some(client) = self.clients.get_mut(&link) else {
             return Ok(None);
         };
+        if client.share.is_dear && client.waiting != Waiting::PutOff {
+            self.queue.put_off(client, link);
+            return Ok(None);
+        }
         let want = want_of(wants, link);
         let what = client.turn(link, &want, buf);
         if what.is_some() {
@@ -254,7 +290,11 @@ impl Sockets {
         ensures link { IfOk result (λ found. IfSome found (λ what.
             OfLink what (λ link. has_link self.new link ≡ true))) }
         ensures opens { IfOk result (λ found. IfSome found (OpensAt next_link)) }
+        ensures share { IfOk result (λ found. IfSome found (IsWithinShare self.new)) }
         ensures gives_up { IfOk result (λ found. IfSome found (GivesUp self.new wants.now secs)) }
+
+        // Where a connection arrived, the listener is asked for the next one.
+        ensures listens { IfOk result (λ found. IsSome found → self.new.listening ≡ true) }
         ensures untouched { OnErr result (IsUnchanged self.old.clients self.new.clients) }
     {
         self.listening = false;
@@ -274,7 +314,9 @@ impl Sockets {
 
     /// The connection that was accepted before, or the next one that the system gives.
     fn arrival(&mut self) -> Result<Option<TcpStream>, LinksFault>
-        ensures { self.new.clients ≡ self.old.clients }
+        ensures first { IsSome self.old.arrived → result ≡ Ok self.old.arrived }
+        ensures none { self.new.arrived ≡ None }
+        ensures clients { self.new.clients ≡ self.old.clients }
     {
         if let Some(stream) = self.arrived.take() {
             return Ok(Some(stream));
@@ -293,7 +335,12 @@ impl Sockets {
         ensures failed { IfErr result (λ fault. fault ≡ LinksFault.Failed →
             IsOfListener (raw_os_error error.now)) }
         ensures goes_on { OnOk result (¬ IsOfListener (raw_os_error error.now)) }
+        ensures lack { OnOk result (IsOfLack (raw_os_error error.now)
+            → self.new.lacking ≡ true) }
+        ensures next { OnOk result (IsOfOneConnection (raw_os_error error.now)
+            → self.new.listening ≡ true) }
         ensures clients { self.new.clients ≡ self.old.clients }
+        ensures arrived { self.new.arrived ≡ self.old.arrived }
     {
         let Some(code) = error.raw_os_error() else {
             return self.queue_listener();
@@ -359,6 +406,7 @@ impl Sockets {
     /// Takes in a connection as the link of this number. A socket that the system can't watch is closed.
     fn welcome(&mut self, mut stream: TcpStream, link: u64, secs: u64) -> Result<bool, LinksFault>
         ensures is_in { IfOk result (λ is_in. is_in ≡ true → has_link self.new link ≡ true) }
+        ensures listening { self.new.listening ≡ self.old.listening }
         ensures untouched { OnErr result (IsUnchanged self.old.clients self.new.clients) }
     {
         // Replies are short, and do not wait for one another. A connection that is over already refuses this.
@@ -371,7 +419,8 @@ impl Sockets {
         if registered.is_err() {
             return Ok(false);
         }
-        self.clients.insert(link, Client::fresh(stream, secs))?;
+        self.clients
+            .insert(link, Client::fresh(stream, secs, Share::first()))?;
         Ok(true)
     }
 

@@ -337,11 +337,6 @@ module _ (pattern : List ℕ) (at : ℕ) (first : NoneBefore (Passes (is_byte pe
       ap₂ (λ p t. is_wild (percent ∷ p) t) (following_both at 1 pattern) (following_both place at text)
       ∙ goes_on_from text place found occurs
 
-  pub fits_following : (text : List ℕ) (place : ℕ) → OccursAt text (take at pattern) place
-      → at ≤ length (take (length text - place) (drop place text))
-  fits_following text place occurs =
-      omega (arith, fits text place occurs, ap length (following place text), length-drop place text)
-
   pub is_nowhere : (text : List ℕ) → Nowhere (OccursAt text (take at pattern)) 0 (length text + 1)
       → false ≡ is_wild (percent ∷ pattern) text
   is_nowhere text none =

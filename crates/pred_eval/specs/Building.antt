@@ -1,8 +1,9 @@
 -- What the building of regular expressions answers, counts and records.
-use Rattle.std.specs.Prelude.{◌≡◌, ◌≢◌, ℕ, ◌<◌, List, [], ◌∷◌, length, map, slice_index_or, Option, Result, Ok, Err}
+use Rattle.std.specs.Prelude.{◌≡◌, ◌≢◌, ℕ, ◌+◌, ◌<◌, ◌≤◌, List, [], ◌∷◌, length, map, slice_index_or, Option, Result, Ok, Err}
 use denote.Ref.{Bor}
 use Rattle.list_laws.specs.Counts.{Rose}
 use Rattle.regex.specs.Failures.{IsPattern}
+use Rattle.regex.specs.Strings.{regex_size}
 use Rattle.regex.specs.declared.error.Error.{Error}
 use Rattle.regex.specs.declared.error.Error.TheVariants.{Syntax, CompiledTooBig, Internal, OutOfMemory}
 use Rattle.regex_syntax.specs.Verdict.{Refuses, default_config}
@@ -38,6 +39,12 @@ abbrev pub IsAnswerTo : List ℕ → PatternAnswer → Type 0
 IsAnswerTo pattern (Built regex) = IsReadFrom pattern regex
 IsAnswerTo pattern Refused = IsRefused pattern
 IsAnswerTo pattern Memory = Unit {0}
+
+-- The program of what was built has at most 65,536 bytes, and what the crate `regex` adds to each.
+abbrev pub IsSmall : PatternAnswer → Type 0
+IsSmall (Built regex) = regex_size regex ≤ 65536 + 24
+IsSmall Refused = Unit {0}
+IsSmall Memory = Unit {0}
 
 -- only a refusal is counted
 abbrev pub IsCounted : ℕ → ℕ → PatternAnswer → Type 0

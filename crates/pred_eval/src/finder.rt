@@ -1,6 +1,7 @@
 ghost use Rattle.std.specs.Prelude.{◌≡◌, ℕ, List, if◌then◌else◌, IfOk, IfSome};
 ghost use Rattle.pred_eval.specs.Search.{finds, IsReadFrom, HasMatchesOf};
 
+use crate::patterns::PROGRAM_BYTES;
 use ev_types::Memory;
 use regex::Regex;
 use regex_compile::{Error, compile};
@@ -10,9 +11,6 @@ use regex_syntax::{Config, ErrorKind, parse};
 use regex_vm::Backtracker;
 use std::alloc::Global;
 use std::marker::Model;
-
-// The states of a regular expression take no more bytes than this.
-const MOST_BYTES: usize = 65_536;
 
 // The product of the states and of the bytes of a text that is searched by them is at most this.
 const MOST_PAIRS: usize = 16_384;
@@ -91,7 +89,7 @@ fn states_of(alloc: Global, pattern: &str) -> Result<Option<States>, Memory>
     let Ok(groups) = u32::try_from(parsed.names.len()) else {
         return Ok(None);
     };
-    match compile(alloc, &parsed.hir, groups, MOST_BYTES) {
+    match compile(alloc, &parsed.hir, groups, PROGRAM_BYTES) {
         Ok(nfa) => {
             let at_start = is_anchored_start(&parsed.hir);
             Ok(Some(States { nfa, at_start }))

@@ -10,7 +10,9 @@ mod truth;
 mod wild;
 
 pub use finder::Finder;
-pub use patterns::{BuildFault, ListPatterns, PatternAnswer, Patterns, RegexPatterns, build_all};
+pub use patterns::{
+    BuildFault, ListPatterns, PROGRAM_BYTES, PatternAnswer, Patterns, RegexPatterns, build_all,
+};
 pub use pred::{Pred, append_texts};
 pub use rule::{Ordering, Rule, Rules};
 pub use truth::{pattern_count, rule_holds, rule_holds_of};

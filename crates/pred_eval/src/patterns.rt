@@ -1,15 +1,19 @@
 ghost use Rattle.std.specs.Prelude.{◌≡◌, ◌≢◌, ◌<◌, ◌≤◌, ◌^◌, [], ◌++◌, length, Some, IfOk};
 ghost use Rattle.std.specs.Option.{option_map};
-ghost use Rattle.pred_eval.specs.Building.{IsAnswerTo, IsCounted, refused_by, texts_of, HasCause, refused_of};
+ghost use Rattle.pred_eval.specs.Building.{IsAnswerTo, IsCounted, IsSmall, refused_by, texts_of, HasCause, refused_of};
 ghost use Rattle.pred_eval.specs.Search.{AreReadFrom};
 ghost use Rattle.pred_eval.specs.declared.patterns.BuildFault.TheVariants.{Memory as out_of_memory};
 
 use crate::Finder;
 use ev_types::{Memory, Text, Texts};
 use ghost_logs::TextLog;
-use regex::{Error, Regex};
+use regex::{Error, Regex, RegexBuilder};
 use std::alloc::{AllocFailed, Global};
 use thiserror::Error;
+
+/// About how many bytes the program of a regular expression may take. One of a larger program is refused. A search
+/// takes time in proportion to the program: at this size a quarter of a microsecond for each byte of a text.
+pub const PROGRAM_BYTES: usize = 65_536;
 
 /// What a pattern's text was built into.
 #[derive(Drop)]
@@ -28,10 +32,11 @@ pub trait Patterns {
     /// How many texts were refused, and which, where they are known.
     ghost report: { Self → PatternsReport };
 
-    /// Builds the regular expression of the text. Only a refusal is counted and recorded, and one has a cause that is
-    /// not memory.
+    /// Builds the regular expression of the text. What is built is small (`PROGRAM_BYTES`). Only a refusal is counted and
+    /// recorded, and one has a cause that is not memory.
     fn build(&mut self, alloc: Global, pattern: &Text) -> PatternAnswer
         ensures built { IsAnswerTo pattern.now result }
+        ensures small { IsSmall result }
         ensures counted { IsCounted (report self.old).refusals (report self.new).refusals result }
         ensures reported { (report self.new).refused ≡ option_map
             (λ texts. texts ++ refused_by pattern.now result) (report self.old).refused }
@@ -108,9 +113,13 @@ impl Patterns for ListPatterns {
 /// What the crate `regex` answers. Only an error that is not out of memory refuses the text.
 #[tactic(auto, using(crate::proofs::BuildLaws::cause_is))]
 fn read_regex(alloc: Global, pattern: &Text) -> PatternAnswer
-    ensures { IsAnswerTo pattern.now result }
+    ensures answer { IsAnswerTo pattern.now result }
+    ensures small { IsSmall result }
 {
-    match Regex::new(alloc, pattern.as_str()) {
+    match RegexBuilder::new(pattern.as_str())
+        .size_limit(PROGRAM_BYTES)
+        .build(alloc)
+    {
         Ok(regex) => PatternAnswer::Built(regex),
         Err(error) => answer_error(error),
     }

@@ -64,9 +64,6 @@ run_passes p (b ∷ bytes) = run_passes_first p b bytes (p b) refl (run_passes p
 name_byte_small : (b : ℕ) → is_name_byte b ≡ true → b < 128
 name_byte_small b h = grind (arith, nat_tests)
 
-digit_small : (b : ℕ) → is_ascii_digit b ≡ true → b < 128
-digit_small b h = grind (arith, nat_tests)
-
 pub names_are_utf8 : (bytes : List ℕ) → is_utf8 (take (prefix_len is_name_byte bytes) bytes) ≡ true
 names_are_utf8 bytes =
     is_utf8-from_IsUtf8 _

@@ -29,7 +29,7 @@ pub(crate) struct Group {
 }
 
 /// What may come next.
-#[derive(Debug, Drop)]
+#[derive(Drop)]
 pub(crate) enum Wants {
     Operand,
     /// The string after `tagged`.

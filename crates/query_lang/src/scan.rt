@@ -17,7 +17,7 @@ use std::str;
 use string_literals::escaped;
 
 /// Why no token was read.
-#[derive(Clone, Copy, Debug, PartialEq, Eq)]
+#[derive(Clone, Copy, PartialEq, Eq)]
 pub(crate) enum ScanFault {
     Unreadable,
     Memory,

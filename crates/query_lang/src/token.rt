@@ -2,7 +2,7 @@ use ev_types::Text;
 use pred_eval::Ordering;
 
 /// A token of a query.
-#[derive(Debug, Drop)]
+#[derive(Drop)]
 pub(crate) enum Token {
     /// `(`
     Open,
@@ -24,7 +24,7 @@ pub(crate) enum Token {
 }
 
 /// How a field is tested.
-#[derive(Clone, Copy, Debug, PartialEq, Eq)]
+#[derive(Clone, Copy, PartialEq, Eq)]
 pub(crate) enum Operator {
     /// `=`
     Equal,

@@ -16,7 +16,7 @@ use std::alloc::Global;
 use string_literals::put_literal;
 
 /// What a rule is written under in a query.
-#[derive(Clone, Copy, Debug, PartialEq, Eq)]
+#[derive(Clone, Copy, PartialEq, Eq)]
 pub(crate) enum Under {
     /// Nothing, or parentheses.
     Query,

@@ -1,3 +1,4 @@
 pub mod CarryLaws
 pub mod CommandLaws
 pub mod WordLaws
+pub mod IndexedLaws

@@ -3,8 +3,10 @@
 #![tactic(auto)]
 
 mod command;
+mod law;
 mod program;
 mod server;
 
+pub use law::last_lines_are_left;
 pub use program::{ArgumentsFault, arguments, is_of_client, run};
 pub use server::riemann;

@@ -9,10 +9,6 @@ use Rattle.sexp_read.specs.declared.piece.Quoted.{Quoted}
 use Rattle.sexp_read.specs.Bytes.{escape_of}
 use Rattle.sexp_read.specs.Tokens.{Fault, quoted_from, with_prefix, with_escape}
 
-pub with_no_front : (read : Result (List ℕ × ℕ) Fault) → with_prefix [] read ≡ read
-with_no_front (Ok read) = refl
-with_no_front (Err fault) = refl
-
 pub with_fronts : (a b : List ℕ) (read : Result (List ℕ × ℕ) Fault)
     → with_prefix a (with_prefix b read) ≡ with_prefix (a ++ b) read
 with_fronts a b (Ok read) = ap (λ text. Ok (text, read.1)) (sym (append_assoc a b read.0))

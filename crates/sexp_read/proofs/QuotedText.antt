@@ -16,9 +16,6 @@ use Rattle.string_literals.specs.Literals.{escaped as escaped_byte}
 use Rattle.sexp_read.specs.Bytes.{escape_of}
 use Rattle.sexp_read.specs.Tokens.{Fault, quoted_from, with_prefix, with_escape}
 
-abbrev utf8 : List ℕ → Type 0
-utf8 bytes = IsUtf8 bytes
-
 at_seam : (front bytes : List ℕ) (b : ℕ) → get_or (front ++ b ∷ bytes) (length front) 0 ≡ b
 at_seam [] bytes b = refl
 at_seam (x ∷ front) bytes b = at_seam front bytes b

@@ -226,9 +226,6 @@ magnitude_is : (digits : List ℕ) (most n : ℕ) → 0 < length digits → all_
     → digits_value 10 digits ≡ n → n ≤ most → magnitude digits most ≡ Some n
 magnitude_is digits most n some all value fits = rw (lt-ltb 0 (length digits) some, all, value, le-leb n most fits) refl
 
-digit_is : (b : ℕ) → is_ascii_digit b ≡ true → is_digit b ≡ true
-digit_is b h = h
-
 number_atom_is : (run : List ℕ) (number : ℤ) → begins_number run ≡ true → number_of run ≡ Some number
     → atom_of run ≡ Ok (Number number)
 unfolding atom_of

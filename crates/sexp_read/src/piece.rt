@@ -32,7 +32,7 @@ pub(crate) enum Piece {
 }
 
 /// What begins at a byte that begins a piece.
-#[derive(Clone, Copy, Debug, PartialEq, Eq)]
+#[derive(Clone, Copy, PartialEq, Eq)]
 pub(crate) enum Class {
     Separator,
     Comment,
@@ -46,7 +46,7 @@ pub(crate) enum Class {
 }
 
 /// What is quoted.
-#[derive(Clone, Copy, Debug, PartialEq, Eq)]
+#[derive(Clone, Copy, PartialEq, Eq)]
 pub(crate) enum Quoted {
     Text,
     Pattern,

@@ -18,14 +18,8 @@ use Rattle.stream_meaning.specs.FoldLaws.{IsSumOfAll, SumIsHeldToTheRange}
 less_chain : (a b c : ℤ) → a <ℤ b → b ≤ℤ c → a <ℤ c
 less_chain a b c p q = omega (arith, ints)
 
-at_most_chain : (a b c : ℤ) → a ≤ℤ b → b ≤ℤ c → a ≤ℤ c
-at_most_chain a b c p q = omega (arith, ints)
-
 less_at_most : (a b : ℤ) → a <ℤ b → a ≤ℤ b
 less_at_most a b p = omega (arith, ints)
-
-same_at_most : (a : ℤ) → a ≤ℤ a
-same_at_most a = omega (arith, ints)
 
 is_less : (a b : ℤ) → int_lt a b ≡ true → a <ℤ b
 is_less a b e = grind (arith, ints)

@@ -256,24 +256,6 @@ module _ (fields : List Field) (within : are_index_fields fields ≡ true) where
       step false e k = k
   key_history key (h ▸ In (Many es)) = key_history key h
 
-  key_twice : (key : List Value) (h : History) → of_key fields key (of_key fields key h) ≡ of_key fields key h
-  key_twice key (since start) = refl
-  key_twice key (h ▸ Tick) = ap (λ g. g ▸ Tick) (key_twice key h)
-  key_twice key (h ▸ In (One event)) = step (event_has fields key event) refl (key_twice key h)
-    where
-      step : (t : Bool) → event_has fields key event ≡ t →
-          of_key fields key (of_key fields key h) ≡ of_key fields key h →
-          of_key fields key (cond t (of_key fields key h ▸ In (One event)) (of_key fields key h))
-          ≡ cond t (of_key fields key h ▸ In (One event)) (of_key fields key h)
-      step true e ih =
-          ap
-          (λ t.
-          cond t (of_key fields key (of_key fields key h) ▸ In (One event)) (of_key fields key (of_key fields key h)))
-          e
-          ∙ ap (λ g. g ▸ In (One event)) ih
-      step false e ih = ih
-  key_twice key (h ▸ In (Many es)) = key_twice key h
-
   -- ---- the forks of a key
 
   fork_kept : (idle : Option ℕ) (fork : KeyFork) (h : History) → HistoryAll (Of fork.key) (of_fork idle fields fork h)

@@ -49,10 +49,6 @@ no_roll n came r e f = ap (λ es. nat_lt n (length es + one_if r)) e ∙ ap (λ 
     below : (n : ℕ) → nat_lt n 0 ≡ false
     below n = grind (arith, nat_tests)
 
-one_less : (u : Bool) (w : ℕ) → u ≡ true → w < cond u (w + 1) w
-one_less true w e = omega arith
-one_less false w e = absurd (true≢false (sym e))
-
 stable_stays : (t : Bool) (now deadline : ℕ) (es : List Event) → (now + 1 == deadline) ≡ t →
     (is_there es && nat_lt now deadline) && t ≡ false →
     some_if (is_there es && nat_lt (now + 1) deadline) deadline ≡ some_if (is_there es && nat_lt now deadline) deadline

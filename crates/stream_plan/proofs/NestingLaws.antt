@@ -1,10 +1,9 @@
 -- In a plan without faults forks end only where no `By` is above.
-use Rattle.std.proofs.Common.{◌≡◌, ℕ, ◌+◌, Bool, true, false, ◌&&◌, ◌||◌, List, [], ◌∷◌, ◌++◌, Option, Some, None, refl}
-use Rattle.std.specs.Prelude.{is_some}
+use Rattle.std.proofs.Common.{ℕ, ◌+◌, List, [], ◌∷◌, ◌++◌}
 use Rattle.std.specs.List.{AllByRecursion}
 use Rattle.stream_plan.specs.declared.kinds.Flow.{Flow}
 use Rattle.stream_plan.specs.Faults.{preorder_at, preorder_in, count_of}
-use Rattle.stream_plan.specs.Kinds.{is_by, has_idle, passes_on, at_top}
+use Rattle.stream_plan.specs.Kinds.{passes_on, at_top}
 use Rattle.stream_plan.specs.Nesting.{EndsOutermost, AllEndOutermost, SoundPlansEndOutermost}
 use Rattle.stream_plan.specs.Sound.{IsEndlessInForks}
 use Rattle.stream_plan.specs.Tree.{StreamTree, stream, StreamTrees, none, also}
@@ -41,8 +40,3 @@ mutual
 
 pub ends_outermost : SoundPlansEndOutermost
 ends_outermost streams sound = ends_in [] 0 at_top streams sound.endless
-
--- without `idle` there is no number of seconds
-pub endless_from : (idle : Option ℕ) → is_some idle ≡ false → idle ≡ None
-endless_from None is = refl
-endless_from (Some secs) is = cc

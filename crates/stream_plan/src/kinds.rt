@@ -14,7 +14,7 @@ pub const MAX_COUNT: u32 = 1_000_000;
 pub const MAX_SECS: u32 = 604_800;
 
 /// What a stream is given.
-#[derive(Clone, Copy, Debug, PartialEq, Eq)]
+#[derive(Clone, Copy, PartialEq, Eq)]
 pub(crate) enum Input {
     Nothing,
     /// Events one by one.
@@ -24,7 +24,7 @@ pub(crate) enum Input {
 }
 
 /// What a stream is given, and whether it is in the forks of a `By` above it.
-#[derive(Clone, Copy, Debug, PartialEq, Eq)]
+#[derive(Clone, Copy, PartialEq, Eq)]
 pub(crate) struct Flow {
     pub(crate) input: Input,
     pub(crate) in_fork: bool,

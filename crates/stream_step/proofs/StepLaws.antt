@@ -15,7 +15,6 @@ use Rattle.pred_eval.specs.Truth.{searches}
 use Rattle.pred_eval.specs.Tree.{Tree}
 use Rattle.pred_eval.proofs.SearchLaws.{read_front, read_back, read_length}
 use Rattle.regex.specs.declared.string.regex.Regex.{Regex}
-use Rattle.stream_plan.specs.Ready.{kind_patterns}
 use Rattle.stream_plan.specs.Tree.{KindTree, Where, By, Rollup, Batch, Stable, Coalesce}
 use Rattle.stream_meaning.specs.Deadlines.{next_deadline}
 use Rattle.stream_states.specs.Kept.{keeps, KeptRepresents}
@@ -106,11 +105,6 @@ keeps_on texts kind (Forks first) h quiet keeps = keeps
 pub states_stay : QuietTicksKeepStates
 states_stay texts kind state h represents quiet =
     record { in_range = represents.in_range; keeps = keeps_on texts kind state h quiet represents.keeps }
-
--- the kinds that keep something of what came have no regular expression
-pub kept_patterns : (kind : KindTree) → keeps kind ≡ true → kind_patterns kind ≡ []
-kept_patterns (Where rule) kept = cc
-kept_patterns kind kept = refl
 
 numbers_never_due : (texts : List (List ℕ)) (kind : KindTree) (state : State) (h : History)
     → HasNumbers texts kind state → None ≡ next_deadline kind h

@@ -196,8 +196,3 @@ verdicts_are_one notices expects (Differs name n) (Differs other m) first second
     λ i. Differs ((first.named ∙ same.0 ∙ sym second.named) i) (same.1 i)
 
 -- ---- expectations one after another
-
-pub met_more : (notices : List Notice) (before : List Expect) (expect : Expect) → AllByRecursion (IsMet notices) before
-    → IsMet notices expect → AllByRecursion (IsMet notices) (before ++ expect ∷ [])
-met_more notices [] expect all met = (met, tt)
-met_more notices (first ∷ before) expect all met = (all.0, met_more notices before expect all.1 met)

@@ -37,7 +37,7 @@ use Rattle.stream_tree.specs.Running.{DueStops, TickRuns, TickStops, BranchRuns,
 use Rattle.stream_tree.specs.Running.{EmissionsStop}
 use Rattle.stream_tree.specs.Tree.{Performs, PerformsPart}
 use Rattle.stream_tree.proofs.ForkLaws.{fork_goes_on, extended_here, extended_elsewhere}
-use Rattle.stream_tree.proofs.PerformLaws.{grew_none, grew_then, part_none, part_more, part_then, stops_more}
+use Rattle.stream_tree.proofs.PerformLaws.{grew_none, grew_then, part_more, part_then, stops_more}
 use Rattle.stream_tree.proofs.PerformLaws.{stops_then}
 use Rattle.stream_tree.proofs.StillLaws.{below_same, forks_tick}
 use Rattle.stream_tree.proofs.ReceivedLaws.{fork_found, holds_there, kind_of-opened, children_of-opened}
@@ -493,19 +493,7 @@ module _ {G : Type 0} (patterns : List Regex) (start moment : ℕ) where
         (holds_there start moment s streams is first key ended x children otherwise forks found number finds texts live
         received own at comes)
 
-  -- the fork was not found
-  pub key_missed : (s : StreamTree) (x : Entry) (first : ℕ) (branch : Branch) (a : List Output) (t : StepCount G)
-      (below : Below)
-      → BranchStops patterns start moment a t a t x s first branch below
-  key_missed s x first branch a t below texts live received from fits represents unseen past comes =
-      part_none a t (entering (effects_below s) branch (received branch ▸ x))
-
   -- ---- emissions
-
-  -- no emission
-  pub none_run : (s : StreamTree) (first : ℕ) (a : List Output) (t : StepCount G) (below : Below)
-      → EmissionsRun patterns start moment a t a t [] s first below below
-  none_run s first a t below texts live received from fit represents unseen stand = (represents, grew_none a t)
 
   -- one emission alone
   pub one_run : (s : StreamTree) (first : ℕ) (branch : Branch) (item : Item) (a b : List Output) (t u : StepCount G)

@@ -239,10 +239,6 @@ has_chosen p (first ∷ ks) distinct =
         ap (λ (b : Bool). b || has k.number (numbers_of (filter p ks))) (eqb-flip k.number first.number ∙ apart) ∙ e
     other false k apart e = e
 
-no_numbers-apart : IsDistinct eqb []
-unfolding IsDistinct
-no_numbers-apart = tt
-
 all_chosen : (number : ℕ) (p : Kept → Bool) (ks : List Kept)
     → AllByRecursion (λ n. eqb number n ≡ false) (numbers_of ks)
     → AllByRecursion (λ n. eqb number n ≡ false) (numbers_of (filter p ks))

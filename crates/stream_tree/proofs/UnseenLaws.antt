@@ -8,7 +8,7 @@ use Rattle.ev_types.specs.declared.item.Item.TheVariants.{One}
 use Rattle.ev_types.specs.declared.item.Output.TheVariants.{Write as write}
 use Rattle.pred_eval.specs.Search.{AreReadFrom}
 use Rattle.pred_eval.specs.Tree.{Tree as RuleTree}
-use Rattle.pred_eval.specs.Truth.{holds, searches}
+use Rattle.pred_eval.specs.Truth.{holds}
 use Rattle.regex.specs.declared.string.regex.Regex.{Regex}
 use Rattle.stream_plan.specs.declared.plan.Stream.{Stream, out-Stream}
 use Rattle.stream_plan.specs.Ready.{plan_patterns}
@@ -48,11 +48,6 @@ both-assoc Write Write Write = refl
 both-assoc Write Write Needed = refl
 both-assoc Write Needed c = refl
 both-assoc Needed b c = refl
-
-both-nothing : (a : Unseen) → both a Nothing ≡ a
-both-nothing Nothing = refl
-both-nothing Write = refl
-both-nothing Needed = refl
 
 both-needed : (a : Unseen) → both a Needed ≡ Needed
 both-needed Nothing = refl
@@ -342,9 +337,6 @@ UnseenSoFar patterns streams nodes event i unseen = (texts : List (List ℕ)) (h
     both unseen (plan_unseen (list_trees (drop i streams)) event) ≡ plan_unseen (list_trees streams) event
 
 module _ (patterns : List Regex) (streams : List Stream) (nodes : List Node) (event : Event) where
-  pub unseen_begins : UnseenSoFar patterns streams nodes event 0 Nothing
-  unseen_begins texts h from represents = refl
-
   pub unseen_more : (i : ℕ) (unseen own next : Unseen) (s : Stream) (node other : Node) →
       i < length streams → i < length nodes → s ≡ get_or streams i s → node ≡ get_or nodes i other →
       UnseenSoFar patterns streams nodes event i unseen →

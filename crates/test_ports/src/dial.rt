@@ -5,7 +5,7 @@ use ports::{Links, ListenAnswer, PIECE_LIMIT, SendAnswer, Wants, What};
 use std::alloc::Global;
 use std::net::Net;
 use std::test::Fail;
-use std::time::Clock;
+use std::time::{Clock, CpuClock};
 
 /// All there is on link 0 is waited for.
 fn one(alloc: Global) -> Result<Wants, Memory> {
@@ -37,7 +37,7 @@ fn are_open<L: Links, M: Links>(
 }
 
 /// Whether the server's link ends as the client closes it.
-fn is_closed<R: Net + Clock>(
+fn is_closed<R: Net + Clock + CpuClock>(
     alloc: Global,
     client: &mut DialLinks<'_, R>,
     server: &mut MioLinks<'_, R>,
@@ -61,7 +61,7 @@ fn is_not_before<L: Links>(
 
 /// Whether both ends open, bytes go both ways, the server's link ends as the client closes it, and the client's clock
 /// goes on from this second.
-fn are_linked<R: Net + Clock>(
+fn are_linked<R: Net + Clock + CpuClock>(
     alloc: Global,
     client: &mut DialLinks<'_, R>,
     server: &mut MioLinks<'_, R>,
@@ -77,7 +77,7 @@ fn are_linked<R: Net + Clock>(
 }
 
 /// Whether the client, which began to connect to the server in this second, is served.
-fn is_served<R: Net + Clock>(
+fn is_served<R: Net + Clock + CpuClock>(
     alloc: Global,
     client: &mut DialLinks<'_, R>,
     server: &mut MioLinks<'_, R>,
@@ -89,7 +89,7 @@ fn is_served<R: Net + Clock>(
 }
 
 /// Whether the client is served at the address.
-fn is_served_at<R: Net + Clock>(
+fn is_served_at<R: Net + Clock + CpuClock>(
     alloc: Global,
     client: &mut DialLinks<'_, R>,
     server: &mut MioLinks<'_, R>,
@@ -104,7 +104,7 @@ fn is_served_at<R: Net + Clock>(
 }
 
 /// Whether the client is served at the address that the server listens on.
-fn is_dialed<R: Net + Clock>(
+fn is_dialed<R: Net + Clock + CpuClock>(
     alloc: Global,
     client: &mut DialLinks<'_, R>,
     server: &mut MioLinks<'_, R>,
@@ -116,7 +116,11 @@ fn is_dialed<R: Net + Clock>(
 }
 
 /// Whether a client is served by the server.
-fn serves_one<R: Net + Clock>(rt: &R, alloc: Global, server: &mut MioLinks<'_, R>) -> bool {
+fn serves_one<R: Net + Clock + CpuClock>(
+    rt: &R,
+    alloc: Global,
+    server: &mut MioLinks<'_, R>,
+) -> bool {
     match DialLinks::fresh(rt, alloc) {
         Ok(mut client) => is_dialed(alloc, &mut client, server),
         Err(Memory) => false,
@@ -150,7 +154,7 @@ fn is_refused<L: Links>(alloc: Global, links: &mut L, address: &str) -> bool {
 }
 
 /// Whether an address that nobody listens on, and one without a port, are two faults.
-fn are_two_faults<R: Net + Clock>(alloc: Global, links: &mut DialLinks<'_, R>) -> bool {
+fn are_two_faults<R: Net + Clock + CpuClock>(alloc: Global, links: &mut DialLinks<'_, R>) -> bool {
     let refused = is_refused(alloc, links, "127.0.0.1:24999");
     let without_port = is_refused(alloc, links, "127.0.0.1");
     refused && without_port && links.faults == 2

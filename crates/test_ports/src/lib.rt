@@ -13,6 +13,8 @@ mod notices;
 #[cfg(test)]
 mod scripts;
 #[cfg(test)]
+mod shares;
+#[cfg(test)]
 mod silence;
 #[cfg(test)]
 mod sockets;

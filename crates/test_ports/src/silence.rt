@@ -8,13 +8,25 @@ use std::io;
 use std::io::Write;
 use std::net::{Net, SocketAddr, TcpStream};
 use std::test::Fail;
-use std::time::{Clock, Duration};
+use std::time::{Clock, CpuClock, Duration};
 
-/// The system's sockets, beside a clock that is set by hand.
+/// The system's sockets, beside clocks that are set by hand.
 #[derive(Drop)]
-struct SetClock<'a, R: Net> {
-    rt: &'a R,
-    secs: Cell<u64>,
+pub(crate) struct SetClock<'a, R: Net> {
+    pub rt: &'a R,
+    pub secs: Cell<u64>,
+    /// For how many milliseconds the thread has used a processor.
+    pub used: Cell<u64>,
+}
+
+impl<'a, R: Net> CpuClock for SetClock<'a, R> {
+    fn thread_cpu_time(&self) -> io::Result<Duration> {
+        Ok(Duration::from_millis(self.used.get()))
+    }
+
+    fn process_cpu_time(&self) -> io::Result<Duration> {
+        self.thread_cpu_time()
+    }
 }
 
 impl<'a, R: Net> Clock for SetClock<'a, R> {
@@ -67,7 +79,7 @@ fn turn_of<L: Links>(
 }
 
 /// Adds a client that opens this link, after all those of smaller numbers. Answers whether it did.
-fn add_client<R: Net + Clock>(
+fn add_client<R: Net + Clock + CpuClock>(
     rt: &R,
     alloc: Global,
     links: &mut MioLinks<'_, R>,
@@ -86,7 +98,7 @@ fn add_client<R: Net + Clock>(
 }
 
 /// Connects 256 clients. Answers whether each opens a link.
-fn fill<R: Net + Clock>(
+fn fill<R: Net + Clock + CpuClock>(
     rt: &R,
     alloc: Global,
     links: &mut MioLinks<'_, R>,
@@ -103,7 +115,7 @@ fn fill<R: Net + Clock>(
 }
 
 /// Connects one more client, whose link is closed again. Answers whether it opened one.
-fn open_one_more<R: Net + Clock>(
+fn open_one_more<R: Net + Clock + CpuClock>(
     rt: &R,
     alloc: Global,
     links: &mut MioLinks<'_, R>,
@@ -125,7 +137,7 @@ fn send_byte<S: Write>(clients: &mut [S]) -> bool {
 }
 
 /// Whether the client of link 0 is heard, after one more link was opened and closed.
-fn is_first_heard<R: Net + Clock, S: Write>(
+fn is_first_heard<R: Net + Clock + CpuClock, S: Write>(
     rt: &R,
     alloc: Global,
     links: &mut MioLinks<'_, R>,
@@ -139,7 +151,7 @@ fn is_first_heard<R: Net + Clock, S: Write>(
 }
 
 /// Whether link 1 is given up for a client that waits, which then opens the next link.
-fn is_room_made<R: Net + Clock>(
+fn is_room_made<R: Net + Clock + CpuClock>(
     alloc: Global,
     links: &mut MioLinks<'_, R>,
     buf: &mut [u8],
@@ -150,7 +162,7 @@ fn is_room_made<R: Net + Clock>(
 }
 
 /// Whether link 1 is given up for one more client.
-fn is_second_given_up<R: Net + Clock>(
+fn is_second_given_up<R: Net + Clock + CpuClock>(
     rt: &R,
     alloc: Global,
     links: &mut MioLinks<'_, R>,
@@ -219,6 +231,7 @@ fn the_link_that_was_silent_longest_makes_room(rt: HostRuntime) -> Result<(), Fa
     let clock = SetClock {
         rt: &rt,
         secs: Cell::new(0),
+        used: Cell::new(0),
     };
     let mut links = MioLinks::fresh(&clock, rt.alloc())?;
     assert!(rt; is_given_up(&clock, rt.alloc(), &mut links));

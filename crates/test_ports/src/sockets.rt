@@ -6,7 +6,7 @@ use std::io;
 use std::io::{Read, Write};
 use std::net::{Net, Shutdown, TcpStream};
 use std::test::Fail;
-use std::time::Clock;
+use std::time::{Clock, CpuClock};
 
 /// The server waits for all there is on the link of this number.
 pub(crate) fn all_of(link: u64) -> Want {
@@ -18,7 +18,7 @@ pub(crate) fn all_of(link: u64) -> Want {
 }
 
 /// The server waits for all there is on links 0 and 1.
-fn both(alloc: Global) -> Result<Wants, Memory> {
+pub(crate) fn both(alloc: Global) -> Result<Wants, Memory> {
     Ok(Wants::from_vec(vec![in alloc; all_of(0), all_of(1)]?))
 }
 
@@ -63,7 +63,7 @@ fn two_clients<R: Net>(rt: &R, address: &str) -> io::Result<(R::Stream, R::Strea
 }
 
 /// Two clients that are connected to the links.
-fn connect<R: Net + Clock>(
+pub(crate) fn connect<R: Net + Clock + CpuClock>(
     rt: &R,
     alloc: Global,
     links: &mut MioLinks<'_, R>,
@@ -103,7 +103,12 @@ pub(crate) fn is_sent<L: Links>(
 }
 
 /// Whether the next turn is that both clients are connected.
-fn are_opened<L: Links>(alloc: Global, links: &mut L, wants: &Wants, buf: &mut [u8]) -> bool {
+pub(crate) fn are_opened<L: Links>(
+    alloc: Global,
+    links: &mut L,
+    wants: &Wants,
+    buf: &mut [u8],
+) -> bool {
     next_turn(alloc, links, wants, buf) == What::Opened { link: 0 }
         && next_turn(alloc, links, wants, buf) == What::Opened { link: 1 }
 }
@@ -132,7 +137,7 @@ fn is_answered<L: Links>(alloc: Global, links: &mut L, client: &mut TcpStream, t
 }
 
 /// Whether link 1 ends as its client sends nothing more. Then it is closed.
-fn is_ended<R: Net + Clock>(
+fn is_ended<R: Net + Clock + CpuClock>(
     alloc: Global,
     links: &mut MioLinks<'_, R>,
     wants: &Wants,
@@ -146,7 +151,7 @@ fn is_ended<R: Net + Clock>(
 }
 
 /// Whether five bytes come from the client of link 1, five others go to it, and its link ends.
-fn is_second_served<R: Net + Clock>(
+fn is_second_served<R: Net + Clock + CpuClock>(
     alloc: Global,
     links: &mut MioLinks<'_, R>,
     wants: &Wants,
@@ -159,7 +164,7 @@ fn is_second_served<R: Net + Clock>(
 }
 
 /// Whether the second client is served, and then the first one.
-fn are_served<R: Net + Clock>(
+fn are_served<R: Net + Clock + CpuClock>(
     alloc: Global,
     links: &mut MioLinks<'_, R>,
     wants: &Wants,
@@ -173,7 +178,7 @@ fn are_served<R: Net + Clock>(
 }
 
 /// Whether two clients are served.
-fn serves<R: Net + Clock>(
+fn serves<R: Net + Clock + CpuClock>(
     alloc: Global,
     links: &mut MioLinks<'_, R>,
     first: &mut TcpStream,
@@ -185,7 +190,7 @@ fn serves<R: Net + Clock>(
 }
 
 /// Whether two clients that connect to the address of the links are served.
-fn are_clients_served<R: Net<Stream = TcpStream> + Clock>(
+fn are_clients_served<R: Net<Stream = TcpStream> + Clock + CpuClock>(
     rt: &R,
     alloc: Global,
     links: &mut MioLinks<'_, R>,
@@ -200,7 +205,7 @@ fn are_clients_served<R: Net<Stream = TcpStream> + Clock>(
 }
 
 /// Whether others that fail to listen on the address, which is in use, and on one without a port, count two faults.
-fn are_two_faults<R: Net + Clock>(rt: &R, alloc: Global, address: &str) -> bool {
+fn are_two_faults<R: Net + Clock + CpuClock>(rt: &R, alloc: Global, address: &str) -> bool {
     match MioLinks::fresh(rt, alloc) {
         Ok(mut others) => {
             fails_to_listen(alloc, &mut others, address)
@@ -212,7 +217,7 @@ fn are_two_faults<R: Net + Clock>(rt: &R, alloc: Global, address: &str) -> bool 
 }
 
 /// Whether the links listen on a port that no others can listen on, and serve two clients there.
-fn have_a_port<R: Net<Stream = TcpStream> + Clock>(
+fn have_a_port<R: Net<Stream = TcpStream> + Clock + CpuClock>(
     rt: &R,
     alloc: Global,
     links: &mut MioLinks<'_, R>,
@@ -357,7 +362,7 @@ fn shares<L: Links>(
 }
 
 /// Whether two clients that are connected to the links share them.
-fn do_clients_share<R: Net<Stream = TcpStream> + Clock>(
+fn do_clients_share<R: Net<Stream = TcpStream> + Clock + CpuClock>(
     rt: &R,
     alloc: Global,
     links: &mut MioLinks<'_, R>,

@@ -1,5 +1,5 @@
 //! Rows of tests: of commands of the server, and of its parts, from the files that the arguments name
-//! (`docs/TEST_ROWS.md`).
+//! (`docs/SCRIPTS.md`).
 #![tactic(auto)]
 
 mod block;

@@ -1,5 +1,5 @@
 -- The last event of each host and service: one event more, and the next boundary.
-use Rattle.std.proofs.Common.{◌≡◌, ℕ, ◌+◌, ◌-◌, ◌*◌, ◌/◌, ◌%◌, ◌<◌, ◌≤◌, ◌==◌, Bool, true, false, not, ◌&&◌, ◌||◌, cond}
+use Rattle.std.proofs.Common.{◌≡◌, ℕ, ◌+◌, ◌-◌, ◌*◌, ◌%◌, ◌<◌, ◌≤◌, ◌==◌, Bool, true, false, not, ◌&&◌, ◌||◌, cond}
 use Rattle.std.proofs.Common.{List, [], ◌∷◌, ◌++◌, length, map, filter, nat_le, Some, None, refl, sym, ap, ◌∙◌, arith}
 use mathlib.Core.Bool.{true≢false}
 use Rattle.std.specs.List.{list_any}
@@ -389,11 +389,3 @@ coalesce-fresh state h alone sound start last = record {
   last = last ∙ sym (ap (coalesced state.secs (next_window state.secs h)) (timed-ticks h alone));
   boundary = λ some. absurd (let size : length state.last ≡ 0 = ap length last in let no : ⊥ = omega arith in no);
 }
-
--- the next boundary, as it is computed
-pub boundary_is : (start secs now : ℕ) → 0 < secs → start ≤ now
-    → now - (now - start) % secs + secs ≡ start + ((now - start) / secs + 1) * secs
-boundary_is start secs now positive after =
-    let parts = div-add-mod' (now - start) secs in
-    let rest : (now - start) % secs < secs = mod-lt (now - start) positive in
-    omega arith

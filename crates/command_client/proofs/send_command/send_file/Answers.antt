@@ -5,7 +5,12 @@ use Rattle.command_client.proofs.send_command.send_file.Goals as goal
 
 pub returns-in-Ok-clause-ends : goal.returns-in-Ok-clause-ends
 returns-in-Ok-clause-ends g c =
-    inr (record { frames = c.in-Ok.frames; file = c.in-Ok.ensures.file; ends = c.send_frames.ensures.ends })
+    inr (record {
+      frames = c.in-Ok.frames;
+      gives = c.in-Ok.ensures.file;
+      within = c.in-Ok.ensures.within;
+      ends = c.send_frames.ensures.ends;
+    })
 
 pub returns-in-Ok-clause-reads : goal.returns-in-Ok-clause-reads
 returns-in-Ok-clause-reads g c =
@@ -33,7 +38,8 @@ returns-in-Err-clause-quiet g c =
 
 pub returns-in-Err-clause-read_fault : goal.returns-in-Err-clause-read_fault
 returns-in-Err-clause-read_fault g c =
-    rw c.ending.ensures (file_fault_rose _ c.as_str.result _ _ _ _ _ c.in-Err.fault c.in-Err.ensures.fault)
+    rw c.ending.ensures (file_fault_rose c.args.file.now c.as_str.result _ (g.S.Store.report c.args.store.now)
+    (g.S.Store.report c.read_file.new.store) c.in-Err.fault c.in-Err.ensures.fault)
 
 pub returns-in-Err-clause-link_fault : goal.returns-in-Err-clause-link_fault
 returns-in-Err-clause-link_fault g c =

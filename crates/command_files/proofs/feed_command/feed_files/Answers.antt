@@ -11,7 +11,7 @@ returns-in-Ok-clause-ends g c = λ links.
     (g.S.Store.report c.feed_file.new.store)
     links _ _ _ _ _
     (g.P.Patterns.report c.fetch_setup.new.patterns) _ _ _ _ c.feed_file.result
-    c.in-Ok.ensures.setup c.in-Ok.ensures.quiet c.in-Ok.ensures.taken c.in-Ok.ensures.same c.in-Ok.ensures.held
+    c.in-Ok.ensures.setup c.in-Ok.ensures.same
     (both_read (g.S.Store.report c.args.store.now).reads (g.S.Store.report c.fetch_setup.new.store).reads
     (g.S.Store.report c.feed_file.new.store).reads
     c.args.config.now c.args.file.now c.feed_file.result c.in-Ok.ensures.read c.feed_file.ensures.reads)

@@ -7,9 +7,8 @@ pub returns-in-Ok-clause-ends : goal.returns-in-Ok-clause-ends
 returns-in-Ok-clause-ends g c = λ links err err'.
     replay_ended c.args.config.now c.args.script.now c.in-Ok.setup _
     (g.S.Store.report c.fetch_setup.new.store)
-    _ links _ _ err err' _ _ _ _ _ _ c.replay_script.result c.in-Ok.ensures.setup c.in-Ok.ensures.quiet
-    c.in-Ok.ensures.taken c.in-Ok.ensures.same
-    c.in-Ok.ensures.held (both_read _ _ _ c.args.config.now c.args.script.now c.replay_script.result
+    _ links _ _ err err' _ _ _ _ _ _ c.replay_script.result c.in-Ok.ensures.setup
+    c.in-Ok.ensures.same (both_read _ _ _ c.args.config.now c.args.script.now c.replay_script.result
     c.in-Ok.ensures.read c.replay_script.ensures.reads)
     (c.replay_script.ensures.ends links err err')
 

@@ -3,7 +3,7 @@ use Rattle.command_io.proofs.fetch.fetch_config.Goals as goal
 
 pub returns-in-Ok-clause-fault : goal.returns-in-Ok-clause-fault
 returns-in-Ok-clause-fault g c =
-    file_of_text _ c.in-Ok.text _ _ _ _ c.read_text.result c.in-Ok.ensures.file
+    file_of_text c.args.name.now c.in-Ok.text _ _ c.read_text.result c.in-Ok.ensures.file c.in-Ok.ensures.within
     (rw c.as_slice.ensures at c.read_text.ensures.fault)
 
 pub returns-in-Ok-clause-reads : goal.returns-in-Ok-clause-reads

@@ -1,5 +1,4 @@
 use Rattle.std.proofs.Common.{inl, inr, refl}
-use Rattle.command_test.proofs.CommandLaws.{suite_since}
 use Rattle.command_test.proofs.FileLaws.{both_read, config_not_complete, config_refused, config_unread, has_config}
 use Rattle.command_test.proofs.command.run_files.Goals as goal
 
@@ -12,12 +11,11 @@ returns-in-Ok-clause-ends g c =
     let ends = rw c.as_slice.ensures at (c.run_text.ensures.ends holds.config) in
     inr (
       holds.config,
-      has_config _ c.in-Ok.text holds,
+      g.S.Store.report c.fetch_config.new.store,
+      has_config c.args.config.now _ _ c.in-Ok.text holds,
       both_read c.args.config.now c.args.tests.now _ _ _ c.run_text.result c.in-Ok.ensures.read
           c.run_text.ensures.reads,
-      suite_since holds.config c.args.tests.now (g.S.Store.report c.args.store.now)
-          (g.S.Store.report c.fetch_config.new.store) (g.S.Store.report c.run_text.new.store) _ _ c.run_text.result
-          c.in-Ok.ensures.quiet c.in-Ok.ensures.taken c.in-Ok.ensures.held (ends holds.is.reads),
+      ends holds.is.reads,
     )
 
 pub returns-in-Err-clause-ends : goal.returns-in-Err-clause-ends

@@ -5,13 +5,13 @@ use Rattle.command_test.proofs.files.fetch_tests.Goals as goal
 pub returns-in-Ok-clause-tests : goal.returns-in-Ok-clause-tests
 returns-in-Ok-clause-tests g c =
     tests_of_file c.args.name.now c.in-Ok.text (g.S.Store.report c.args.store.now)
-    (g.S.Store.report c.read_file.new.store) c.in-Ok.ensures.file c.read_text.result
+    (g.S.Store.report c.read_file.new.store) (c.in-Ok.ensures.file, c.in-Ok.ensures.within) c.read_text.result
     (rw c.as_slice.ensures at c.read_text.ensures.tests)
 
 pub returns-in-Ok-clause-refused : goal.returns-in-Ok-clause-refused
 returns-in-Ok-clause-refused g c =
     no_tests_of_file c.args.name.now c.in-Ok.text (g.S.Store.report c.args.store.now)
-    (g.S.Store.report c.read_file.new.store) c.in-Ok.ensures.file c.read_text.result
+    (g.S.Store.report c.read_file.new.store) (c.in-Ok.ensures.file, c.in-Ok.ensures.within) c.read_text.result
     (rw c.as_slice.ensures at c.read_text.ensures.refused)
 
 pub returns-in-Ok-clause-read : goal.returns-in-Ok-clause-read

@@ -15,7 +15,8 @@ returns-clause-promise g c = λ links forks. record {
   quiet = c.check_file-ending.ensures.quiet;
   idle = (refl, refl);
   complete = λ text read holds reads fits reads_still out_still patterns_still.
-      rw c.report.ensures.status (check_complete _ _ text read _ _ _ _ _ _ c.check_file-ending.result holds reads fits
+      rw c.report.ensures.status (check_complete c.args.config.now (g.S.Store.report c.args.store.now)
+      (g.S.Store.report c.check_file-ending.new.store) text read _ _ _ _ _ _ c.check_file-ending.result holds reads fits
       c.check_file-ending.ensures.cause c.check_file-ending.ensures.writes c.check_file-ending.ensures.read_fault
       c.check_file-ending.ensures.sink_fault
       reads_still out_still patterns_still);
@@ -24,4 +25,5 @@ returns-clause-promise g c = λ links forks. record {
 pub returns-clause-links_work : goal.returns-clause-links_work
 returns-clause-links_work g c =
     λ e.
-    links_not_called _ _ c.check_file-ending.result c.check_file-ending.ensures.cause (rw c.report.ensures.status at e)
+    links_not_called c.args.config.now (g.S.Store.report c.args.store.now)
+    (g.S.Store.report c.check_file-ending.new.store) c.check_file-ending.result c.check_file-ending.ensures.cause (rw c.report.ensures.status at e)

@@ -6,7 +6,9 @@ use Rattle.command_texts.proofs.check_command.check_file.Goals as goal
 
 pub returns-in-Ok-clause-cause : goal.returns-in-Ok-clause-cause
 returns-in-Ok-clause-cause g c =
-    check_cause c.args.name.now _ c.in-Ok.config _ _ _ _ c.check_config.result c.check_config.ensures.ends
+    check_cause c.args.name.now (g.S.Store.report c.args.store.now) (g.S.Store.report c.fetch_config.new.store)
+    c.in-Ok.config _ _ _ _ c.check_config.result c.in-Ok.ensures.config
+    c.check_config.ensures.ends
 
 pub returns-in-Ok-clause-reads : goal.returns-in-Ok-clause-reads
 returns-in-Ok-clause-reads g c =
@@ -18,7 +20,9 @@ returns-in-Ok-clause-taken g c = check_took c.in-Ok.config _ _ _ _ c.check_confi
 
 pub returns-in-Ok-clause-writes : goal.returns-in-Ok-clause-writes
 returns-in-Ok-clause-writes g c =
-    check_writes _ c.in-Ok.config _ _ _ _ c.check_config.result c.in-Ok.ensures.config c.check_config.ensures.ends
+    check_writes c.args.name.now (g.S.Store.report c.args.store.now) (g.S.Store.report c.fetch_config.new.store)
+    c.in-Ok.config _ _ _ _ c.check_config.result c.in-Ok.ensures.config
+    c.check_config.ensures.ends
 
 pub returns-in-Ok-clause-quiet : goal.returns-in-Ok-clause-quiet
 returns-in-Ok-clause-quiet g c =
@@ -38,7 +42,8 @@ returns-in-Ok-clause-sink_fault g c =
 pub returns-in-Err-clause-cause : goal.returns-in-Err-clause-cause
 returns-in-Err-clause-cause g c =
     rw c.ending.ensures
-    (check_cause_fault c.args.name.now c.as_str.result _ _ _ _ _ c.in-Err.fault c.as_str.ensures c.in-Err.ensures.fault)
+    (check_cause_fault c.args.name.now c.as_str.result (g.S.Store.report c.args.store.now)
+    (g.S.Store.report c.fetch_config.new.store) c.in-Err.fault c.as_str.ensures c.in-Err.ensures.fault)
 
 pub returns-in-Err-clause-reads : goal.returns-in-Err-clause-reads
 returns-in-Err-clause-reads g c =
@@ -46,11 +51,14 @@ returns-in-Err-clause-reads g c =
 
 pub returns-in-Err-clause-taken : goal.returns-in-Err-clause-taken
 returns-in-Err-clause-taken g c =
-    rw c.ending.ensures (fetch_fault_took _ c.as_str.result _ _ _ _ c.in-Err.fault c.in-Err.ensures.fault)
+    rw c.ending.ensures (fetch_fault_took c.args.name.now c.as_str.result (g.S.Store.report c.args.store.now)
+    (g.S.Store.report c.fetch_config.new.store) c.in-Err.fault c.in-Err.ensures.fault)
 
 pub returns-in-Err-clause-writes : goal.returns-in-Err-clause-writes
 returns-in-Err-clause-writes g c =
-    rw c.ending.ensures (check_writes_fault c.as_str.result _ _ _ _ _ _ _ c.in-Err.fault c.in-Err.ensures.fault)
+    rw c.ending.ensures (check_writes_fault c.args.name.now c.as_str.result (g.S.Store.report c.args.store.now)
+    (g.S.Store.report c.fetch_config.new.store) _ _ c.in-Err.fault
+    c.in-Err.ensures.fault)
 
 pub returns-in-Err-clause-quiet : goal.returns-in-Err-clause-quiet
 returns-in-Err-clause-quiet g c =
@@ -58,7 +66,8 @@ returns-in-Err-clause-quiet g c =
 
 pub returns-in-Err-clause-read_fault : goal.returns-in-Err-clause-read_fault
 returns-in-Err-clause-read_fault g c =
-    λ e. fetch_fault_rose _ c.as_str.result _ _ _ _ c.in-Err.fault c.in-Err.ensures.fault (rw c.ending.ensures at e)
+    λ e. fetch_fault_rose c.args.name.now c.as_str.result (g.S.Store.report c.args.store.now)
+    (g.S.Store.report c.fetch_config.new.store) c.in-Err.fault c.in-Err.ensures.fault (rw c.ending.ensures at e)
 
 pub returns-in-Err-clause-sink_fault : goal.returns-in-Err-clause-sink_fault
 returns-in-Err-clause-sink_fault g c =

@@ -20,7 +20,7 @@ returns-in-Ok-clause-promise g c = λ links patterns forks.
     let text : ConvertsText host_part c.in-Ok.text old.out new.out old.err new.err status =
     rw c.as_slice.ensures at c.convert_text.ensures.ends in
     let ends : ConvertEnds name host_part old new status =
-    converted_ends name host_part old new c.in-Ok.text status c.in-Ok.ensures.file text in
+    converted_ends name host_part old new c.in-Ok.text status (c.in-Ok.ensures.file, c.in-Ok.ensures.within) text in
     record {
       ends = ends;
       reads =

@@ -8,6 +8,7 @@ use Rattle.hub_run.proofs.server.take_turns.Goals as goal
 pub loop-taken-init : goal.loop-taken-init
 loop-taken-init g c = record {
   whole = c.requires.whole;
+  going = c.requires.going;
   so_far = so_far_nothing (g.L.Links.report c.args.links.now) c.args.quiet c.args.hub.now
       (run_report (g.P.Patterns.report c.args.patterns.now) c.args.steps.now.forks (g.O.Sink.report c.args.sink.now))
       c.requires.known;
@@ -31,6 +32,7 @@ loop-taken-preserved g c =
     let turn = c.in_ok-turn.turn in
     record {
       whole = omega (arith, c.take_next.auto.buf, c.loop-taken.invariant.whole);
+      going = c.in_ok-turn.ensures.going;
       so_far =
           so_far_more log log' log'' c.args.quiet c.args.hub.now c.loop-taken.hub c.take_next.new.hub old mid new
           c.loop-taken.taken

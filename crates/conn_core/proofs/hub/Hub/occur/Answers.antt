@@ -1,3 +1,4 @@
+use Rattle.std.proofs.Common.{refl}
 use Rattle.hub_link.proofs.AddedLaws.{added_weaken}
 use Rattle.hub_link.specs.msg_replies.Arriving.{reported}
 use Rattle.conn_core.specs.Occurring.{OccursFrom}
@@ -13,6 +14,7 @@ returns-in_default g c =
     let patterns = g.P.Patterns.report c.args.patterns.now in
     let before = reported c.args.notices.now c.args.steps.now.forks in
     record {
+      stopped = refl;
       known = c.change.ensures.known;
       occurs =
           added_weaken (g.L.Links.report c.args.links.now) (g.L.Links.report c.change.new.links)
