@@ -12,6 +12,12 @@ It prints for each what the server spends to build it, in milliseconds, and on a
 and in seconds, for a query that holds as many of it as fit, and for a piece of 64 KB of such queries, if all events are
 searched. Then it prints how long another client waits for a query full of the first, and what memory the server takes
 for a query that is full of large expressions, and in which no event is looked at.
+
+With `--flood` it measures what one client can do to the others, for each of these queries. Ten clients post events, and
+another one posts an event and asks for one host, once a second, for five seconds. Then one client more sends pieces that
+are full of the query, without reading a reply, and they go on for 60 seconds (`--seconds`). For both it prints the worst
+wait and the median one of the client that asks, in milliseconds, with ">" where a reply did not come, and the events of
+the ten in a second. Last are the same three for the second half of the flood.
 """
 
 import argparse
@@ -23,9 +29,10 @@ import struct
 import subprocess
 import sys
 import tempfile
+import threading
 import time
 
-from server import OK, ask, expect, field, frame, query, varint
+from server import OK, Failed, ask, expect, field, frame, query, varint
 
 PORT = 15570
 EVENTS, SERVICES, FOUND = 100_000, 10, 20_000
@@ -44,12 +51,13 @@ TESTS = {
     'host ~= "[a-z]+q"': 50_000,
     'description ~= "([a-z]+ ?)+q"': 10_000,
     'description ~= "(.?){99}q"': 1_000,
-    'description ~= "(.?){999}q"': 100,
-    'description ~= "(.?){9999}q"': 10,
+    # About as large as an expression may be.
+    'description ~= "(.?){270}q"': 1_000,
 }
 TEN = 10
+POSTING, QUIET = 10, 5
 NOBODY = b'host = "nobody"'
-LARGE = b'a ~= "(.?){9999}"'
+LARGE = b'a ~= "(.?){270}"'
 
 
 def event(number):
@@ -188,6 +196,84 @@ def measure_expressions(server):
     print(f"{large.count(LARGE)} of {LARGE.decode()}, no event: {taken:.1f}, from {before} to {peak(server)} KB")
 
 
+class Others:
+    """The clients that are served beside a flood, each in a thread of its own. They end with the server."""
+
+    def __init__(self, fields):
+        self.counts, self.waits, self.asked = [0] * POSTING, [], None
+        messages = [frame(b"".join(fields[MESSAGE * each : MESSAGE * (each + 1)])) for each in range(POSTING)]
+        for each, message in enumerate(messages):
+            begin(self.post, connect(), each, message)
+        begin(self.ask, connect(), frame(fields[0]) + query(b'host = "host00000.net"'))
+
+    def post(self, client, each, message):
+        while True:
+            client.sendall(message)
+            expect(client, OK)
+            self.counts[each] += MESSAGE
+
+    def ask(self, client, request):
+        while True:
+            self.asked = time.monotonic()
+            client.sendall(request)
+            expect(client, OK)
+            if not reply(client).startswith(b"\x10\x01"):
+                raise SystemExit("FAIL one host: refused")
+            self.waits.append(time.monotonic() - self.asked)
+            self.asked = None
+            time.sleep(1)
+
+    def measure(self, seconds):
+        """The worst wait and the median one, whether a reply is missing, and the events in a second."""
+        first, before, begun = len(self.waits), sum(self.counts), time.monotonic()
+        time.sleep(seconds)
+        asked, now = self.asked, time.monotonic()
+        missing = asked is not None and now - asked > 1
+        waits = self.waits[first:] + ([now - asked] if missing or not self.waits[first:] else [])
+        return max(waits), statistics.median(waits), missing, (sum(self.counts) - before) / (now - begun)
+
+
+def begin(call, *given):
+    def run():
+        try:
+            call(*given)
+        except (OSError, Failed):
+            pass  # The server was ended.
+
+    threading.Thread(target=run, daemon=True).start()
+
+
+def send_for_ever(client, piece):
+    while True:
+        client.sendall(piece)
+
+
+def shown(measured):
+    worst, median, missing, events = measured
+    return f"{'>' * missing}{1000 * worst:.0f} {1000 * median:.1f} {events:.0f}"
+
+
+def measure_flood(server, text, seconds):
+    fields = [event(number) for number in range(EVENTS)]
+    client, flooding = connected()
+    post(client, fields)
+    others = Others(fields)
+    others.measure(2)
+    quiet = others.measure(QUIET)
+    begin(send_for_ever, flooding, query(text) * (PIECE // len(query(text))))
+    before, halves = len(others.waits), [others.measure(seconds / 2) for _ in range(2)]
+    waits = others.waits[before:] or [halves[1][0]]
+    worst, missing = max(half[0] for half in halves), any(half[2] for half in halves)
+    flooded = worst, statistics.median(waits), missing, statistics.mean(half[3] for half in halves)
+    return f"{shown(quiet)}, {shown(flooded)}, {shown(halves[1])}"
+
+
+def floods():
+    """The name of each flood and its query."""
+    whole = {f"full of {test}": full_query(test.encode()) for test in TESTS}
+    return {**{text.decode(): text for text in ALL}, **whole}
+
+
 def measure(server, most):
     fields = [event(number) for number in range(EVENTS)]
     few, host = b"".join(fields[:FOUND]), b"".join(fields[:SERVICES])
@@ -232,16 +318,27 @@ def main():
     arguments.add_argument("program")
     arguments.add_argument("--most", type=int, default=WRITES[-1])
     arguments.add_argument("--expressions", action="store_true")
+    arguments.add_argument("--flood", action="store_true")
+    arguments.add_argument("--seconds", type=int, default=60)
     given = arguments.parse_args()
+    if given.expressions:
+        serve(given.program, measure_expressions)
+    elif given.flood:
+        print("worst wait, median, events in a second; with a flood; in its second half", flush=True)
+        for name, text in floods().items():
+            print(f"{name}: {serve(given.program, measure_flood, text, given.seconds)}", flush=True)
+    else:
+        serve(given.program, measure, given.most)
+
+
+def serve(program, call, *given):
+    """What the call gives with a server of its own."""
     with tempfile.TemporaryDirectory() as folder:
         config = pathlib.Path(folder) / "config"
         config.write_text(f'(tcp-server {{:host "127.0.0.1" :port {PORT}}}) (streams index)')
-        server = subprocess.Popen([given.program, "serve", str(config)])
+        server = subprocess.Popen([program, "serve", str(config)])
         try:
-            if given.expressions:
-                measure_expressions(server)
-            else:
-                measure(server, given.most)
+            return call(server, *given)
         finally:
             server.kill()
             server.wait()
