@@ -58,9 +58,6 @@ first-least slots x xs rise q more =
 most-is : (now latest : ℕ) → latest ≤ now → max now latest ≡ now
 most-is now latest h = omega (arith, h)
 
-most-latest : (now latest : ℕ) → latest ≤ max now latest
-most-latest now latest = omega arith
-
 pub late-max : (moment now latest bound : ℕ) → moment ≡ max now latest → latest ≡ bound → bound ≤ moment
 late-max moment now latest bound is same = omega (arith, is, same)
 

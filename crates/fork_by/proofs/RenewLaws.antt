@@ -237,11 +237,6 @@ held-most : (slot : Option Slot) → held slot ≤ 1
 held-most None = omega arith
 held-most (Some slot) = omega arith
 
-pub same-renews : (slots slots' : List (Option Slot)) (entries : List (List Value × ℕ)) (next : ℕ) (numbers : List ℕ)
-    → slots' ≡ slots → AreOrdered slots entries next numbers → Renews slots slots' next numbers
-same-renews slots slots' entries next numbers is o =
-    rw is (record { places = λ q. refl; moments = λ q. refl; rise = o.rise; below = o.below })
-
 pub renews : (slots slots' : List (Option Slot)) (entries : List (List Value × ℕ)) (next : ℕ) (numbers : List ℕ)
     (orders : List (ℕ × ℕ)) (list : List ℕ) (order : ℕ)
     → AreOrdered slots entries next numbers

@@ -1,22 +1,10 @@
 -- Laws of slots by number.
-use Rattle.std.proofs.Common.{◌≡◌, ℕ, suc, zero, ◌<◌, ◌≤◌, true, false, cond, eqb, List, [], ◌∷◌, ◌++◌, length}
-use Rattle.std.proofs.Common.{slice_set, Option, None, Some, arith, refl, sym, subst, ◌∙◌, ap, inl, inr}
-use Rattle.std.proofs.lemmas.Bool.Decides.{nat_tests}
-use Rattle.std.proofs.lemmas.List.{get_or-set_other}
-use Rattle.std.proofs.lemmas.Grind.{get_or-set_at}
+use Rattle.std.proofs.Common.{◌≡◌, ℕ, suc, zero, ◌<◌, ◌≤◌, cond, eqb, List, [], ◌∷◌, ◌++◌, length}
+use Rattle.std.proofs.Common.{Option, None, Some, arith, refl, sym, subst, ◌∙◌, ap, inl, inr}
 use Rattle.linked_slots.proofs.ListLaws.{bool_cases, eqb-true}
 use Rattle.fork_by.specs.declared.slots.Slot.{Slot}
 use Rattle.fork_by.specs.Register.{is_number}
 use Rattle.fork_by.specs.Slots.{slot_at, SetsSlot, with_index}
-
-pub slot_set : (slots : List (Option Slot)) (number : ℕ) (slot : Option Slot) → number < length slots
-    → SetsSlot slots (slice_set slots number slot) number slot
-slot_set slots number slot h other =
-    elim (eqb other number) as
-    (λ b. eqb other number ≡ b → slot_at other (slice_set slots number slot) ≡ cond b slot (slot_at other slots)) [
-      | true ↦ λ same. get_or-set_at slots number other slot None (grind (arith, nat_tests, same)) h
-      | false ↦ λ apart. get_or-set_other slots number other slot None (grind (arith, nat_tests, apart))
-    ] refl
 
 pub has_slot : (number : ℕ) (slots : List (Option Slot)) (slot : Slot) → slot_at number slots ≡ Some slot
     → number < length slots
@@ -28,11 +16,6 @@ has_slot (suc number) (first ∷ slots) slot h =
 pub none_at : (number : ℕ) → slot_at number [] ≡ None
 none_at zero = refl
 none_at (suc number) = refl
-
-pub slot_past : (number : ℕ) (slots : List (Option Slot)) → length slots ≤ number → slot_at number slots ≡ None
-slot_past number [] h = none_at number
-slot_past zero (slot ∷ slots) h = absurd (omega (arith, h))
-slot_past (suc number) (slot ∷ slots) h = slot_past number slots (omega (arith, h))
 
 pub slot_grown : (number : ℕ) (slots : List (Option Slot)) → slot_at number (slots ++ None ∷ []) ≡ slot_at number slots
 slot_grown zero [] = refl

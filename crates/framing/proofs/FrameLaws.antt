@@ -216,10 +216,6 @@ oversized_stays b more large =
     let same = length_at_append b more head in
     record { head = omega (arith, length-append b more); over = omega arith }
 
-pub frames_oversized : (b more : List ℕ) → IsOversized b → frames_of (b ++ more) ≡ []
-frames_oversized b more large =
-    frames_at_none (b ++ more) (oversized_has_none (b ++ more) (oversized_stays b more large))
-
 pub partial_oversized : (b more : List ℕ) → IsOversized b → partial (b ++ more) ≡ b ++ more
 partial_oversized b more large =
     partial_at_none (b ++ more) (oversized_has_none (b ++ more) (oversized_stays b more large))
@@ -378,19 +374,6 @@ split_within (suc n) b short small =
           (split_within n (after_frame b) (omega arith) (bytes_after b (4 + length_at b) small)))
       | inr bare ↦ split_at_none b bare
     ]
-
-partial_has_none_within : (n : ℕ) (b : List ℕ) → length b ≤ n → HasFrame (partial b) → ⊥
-partial_has_none_within zero b short = rw (partial_at_none b (no_frame_in_none b short)) (no_frame_in_none b short)
-partial_has_none_within (suc n) b short =
-    elim (frame_cases b) [
-      | inl h ↦
-          (let long = after_frame_length b h in
-          rw (partial_at_frame b h) (partial_has_none_within n (after_frame b) (omega arith)))
-      | inr bare ↦ rw (partial_at_none b bare) bare
-    ]
-
-pub partial_has_none : (b : List ℕ) → HasFrame (partial b) → ⊥
-partial_has_none b = partial_has_none_within (length b) b (omega arith)
 
 pub frames_are_found_lem : FramesAreFound
 frames_are_found_lem stream small = split_within (length stream) stream (omega arith) small

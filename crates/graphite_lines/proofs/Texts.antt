@@ -85,18 +85,3 @@ one_taken host_part text out out' out'' bad bad' bad'' number left line rest tak
   bad_begins = begins_more bad bad' bad'' taken.bad_begins (refused_from number host_part (line ∷ []), kept);
   few = let few = taken.few in omega arith;
 }
-
--- the last line
-pub all_frames : (host_part : Option ℕ) (text out out' out'' : List ℕ) (bad bad' : List BadLine) (number : ℕ)
-    (left line : List ℕ)
-    → AreTaken host_part text out out' bad bad' number left → lines_of left ≡ line ∷ []
-    → out'' ≡ out' ++ frames_with (accepted host_part (line ∷ [])) → out'' ≡ out ++ frames_in host_part text
-all_frames host_part text out out' out'' bad bad' number left line taken lines written =
-    written ∙ ap (λ ls. out' ++ frames_with (accepted host_part ls)) (sym lines) ∙ taken.frames
-
-pub all_refused : (host_part : Option ℕ) (text out out' : List ℕ) (bad bad' bad'' : List BadLine) (number : ℕ)
-    (left line : List ℕ)
-    → AreTaken host_part text out out' bad bad' number left → lines_of left ≡ line ∷ []
-    → bad'' ≡ bad' ++ refused_from number host_part (line ∷ []) → bad'' ≡ bad ++ refused_lines host_part text
-all_refused host_part text out out' bad bad' bad'' number left line taken lines kept =
-    kept ∙ ap (λ ls. bad' ++ refused_from number host_part ls) (sym lines) ∙ taken.refused

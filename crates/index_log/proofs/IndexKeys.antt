@@ -96,10 +96,6 @@ pub in_order-placed : (a : Event) (bs : List Event) → IsInOrder bs → IsInOrd
 in_order-placed a [] k = (tt, tt)
 in_order-placed a (b ∷ bs) k = in_order-placed_by (is_lt (index_key_cmp a b)) a b bs refl k (in_order-placed a bs k.1)
 
-pub in_order-placed_onto : (sorted events : List Event) → IsInOrder sorted → IsInOrder (placed_onto sorted events)
-in_order-placed_onto sorted [] k = k
-in_order-placed_onto sorted (a ∷ es) k = in_order-placed_onto (placed a sorted) es (in_order-placed a sorted k)
-
 -- where all come after it, it comes first
 pub placed-first : (a : Event) (bs : List Event) → AreAfter a bs → placed a bs ≡ a ∷ bs
 placed-first a [] k = refl

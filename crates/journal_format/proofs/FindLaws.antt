@@ -6,15 +6,14 @@ use Rattle.std.specs.Int.{w32, to_be_bytes}
 use Rattle.std.proofs.lemmas.List.{append-nil, nil_from_length, take-append-drop, length-take}
 use Rattle.journal_format.specs.Limits.{config_limit, journal_limit}
 use Rattle.journal_format.specs.Spelling.{IsRecord, Spells, is_listen, record_bytes}
-use Rattle.journal_format.specs.Reading.{Gives, number_at, read_as}
+use Rattle.journal_format.specs.Reading.{number_at, read_as}
 use Rattle.journal_format.specs.Journals.{AreRecords, BeginsWithNoLength, BeginsWithNone, EndsInConfig, IsFront}
 use Rattle.journal_format.specs.Journals.{Journal, MisfitsAt, no_open_gate, no_length, no_config, no_gate, no_record}
 use Rattle.journal_format.specs.Journals.{blank, head_bytes, is_blank, is_empty, with_record}
-use Rattle.journal_format.specs.Finding.{Ends, HasFront, IsHead, IsWhyNoHead, IsWhyNone, IsWhyNoRecord, TakesRecord}
+use Rattle.journal_format.specs.Finding.{Ends, HasFront, IsHead, IsWhyNoHead, IsWhyNone, TakesRecord}
 use Rattle.journal_format.specs.declared.finder.NoJournal.{NoJournal}
 use Rattle.journal_format.specs.declared.finder.NoJournal.TheVariants as none
 use Rattle.journal_format.specs.declared.turn_record.TurnRecord.{TurnRecord}
-use Rattle.journal_format.specs.declared.unread.Unread.{Unread}
 use Rattle.journal_format.specs.declared.unread.Unread.TheVariants as unread
 use Rattle.journal_format.proofs.NumberLaws.{IsBytes, number_takes, number_again, some_is, wide32}
 
@@ -241,14 +240,3 @@ record_of_other_kind first bytes entry rest only differs other text more spells 
     let same = only other more spells.allowed (whole ∙ ap (λ (t : List ℕ). t ++ more) spells.text) in
     let is : other ≡ entry = ap (λ (x : TurnRecord × List ℕ). x.0) (some_is (other, more) (entry, rest) same) in
     differs (sym (ap (λ (r : TurnRecord). is_listen r.event) is) ∙ spells.order)
-
-pub record_refused : {X : Type 0} (view : X → TurnRecord × List ℕ) (first : Bool) (bytes : List ℕ) (why : Unread)
-    → ((other : TurnRecord) (more : List ℕ) → IsRecord other → bytes ≡ record_bytes other ++ more
-    → Gives view (Err why) (read_as other more)) → IsWhyNoRecord first bytes why
-record_refused view first bytes unread.Memory only = tt
-record_refused view first bytes unread.Refused only = refused
-  where
-    refused : BeginsWithNone first bytes
-    refused other text more spells whole =
-        let none = only other more spells.allowed (whole ∙ ap (λ (t : List ℕ). t ++ more) spells.text) in
-        absurd cc

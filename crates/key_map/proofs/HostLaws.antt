@@ -44,12 +44,6 @@ full-set hosts hosts' host services sets some full other none = by_host (is_at (
     by_host false apart =
         full other (sym (sets other ∙ ap (λ b. cond b (Some services) (services_at other hosts)) apart) ∙ none)
 
--- every other host keeps what it had
-pub others-kept : (hosts hosts' : List (List ℕ × Services)) (host : List ℕ) (slot : Option Services)
-    → SetsHost hosts hosts' host slot → HaveServices hosts → OthersHaveServices host hosts'
-others-kept hosts hosts' host slot sets full other apart none =
-    full other (sym (sets other ∙ ap (λ b. cond b slot (services_at other hosts)) apart) ∙ none)
-
 -- the host is not kept
 pub full-without : (hosts hosts' : List (List ℕ × Services)) (host : List ℕ) → SetsHost hosts hosts' host None
     → OthersHaveServices host hosts → HaveServices hosts'

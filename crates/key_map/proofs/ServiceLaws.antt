@@ -1,5 +1,5 @@
 -- What a look-up finds among the services of a host.
-use Rattle.std.proofs.Common.{◌≡◌, ℕ, cond, List, [], ◌∷◌, ◌++◌, length, arith, map, Option, None, Some, refl, sym, ap}
+use Rattle.std.proofs.Common.{◌≡◌, ℕ, cond, List, [], ◌∷◌, ◌++◌, map, Option, None, Some, refl, sym, ap}
 use Rattle.std.proofs.Common.{◌∙◌}
 use Rattle.std.specs.declared.cmp.Ordering.{Ordering}
 use Rattle.std.specs.declared.cmp.Ordering.TheVariants.{Less, Equal, Greater}
@@ -92,10 +92,6 @@ rise-services None es k = rise-present es k
 rise-services (Some n) es k = (all-absent es, rise-present es k)
 
 -- ---- the numbers
-
-pub empty-services : (es : List (List ℕ × ℕ)) → length es ≡ 0 → services_of None es ≡ []
-empty-services [] h = refl
-empty-services (e ∷ es) h = absurd (omega arith)
 
 values-present : (es : List (List ℕ × ℕ)) → values_of (as_services es) ≡ values_of es
 values-present [] = refl

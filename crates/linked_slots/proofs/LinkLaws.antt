@@ -1,11 +1,11 @@
 -- What the changes of the nodes do to the lists.
 use Rattle.std.proofs.Common.{◌≡◌, ◌≢◌, ℕ, suc, zero, ◌<◌, Bool, true, false, cond, eqb, List, [], ◌∷◌, ◌++◌, length}
-use Rattle.std.proofs.Common.{replicate, Option, None, Some, IsSome, arith, rules, refl, sym, ◌∙◌, ap, subst, inl, inr}
+use Rattle.std.proofs.Common.{replicate, Option, None, Some, arith, refl, sym, ◌∙◌, ap, subst, inl, inr}
 use Rattle.std.proofs.Common.{get_or}
 use Rattle.std.proofs.lemmas.Grind.{get_or_default_zero}
 use Rattle.std.proofs.lemmas.List.{get_or_append_left}
 use Rattle.slab.specs.Slab.{Slab, Updates}
-use Rattle.linked_slots.specs.Table.{value_at, IsLive}
+use Rattle.linked_slots.specs.Table.{value_at}
 use Rattle.linked_slots.specs.IdLists.{list_at, times_in, times, IsListed, without, append_to, first_of, last_of}
 use Rattle.linked_slots.specs.IdLists.{following}
 use Rattle.linked_slots.specs.Nodes.{next_of, previous_of, kind_of, next_at, previous_at, kind_at, id_of, AreMutual}
@@ -31,13 +31,6 @@ changed-remove lists ((Append m i, u) ∷ changes) id = changed-remove (append_t
 changed-remove lists ((Remove i, u) ∷ changes) id = changed-remove (without i lists) changes id
 
 -- ---- kinds
-live_of : (o : Option Node) (b : Bool) → kind_of o ≡ Some b → IsSome o
-live_of None b h = absurd (cc)
-live_of (Some node) b h = search rules
-
-pub kind-live : (slots : List (Option Node)) (key : ℕ) (b : Bool) → kind_at slots key ≡ Some b → IsLive slots key
-kind-live slots key b h = live_of (value_at slots key) b h
-
 still_next : (o : Option Node) (key : ℕ) → kind_of o ≡ None → next_of key o ≡ key
 still_next None key h = refl
 still_next (Some node) key h = absurd (cc)

@@ -53,12 +53,6 @@ pub unit_fits : (first : ℕ) (bytes : List ℕ) (more unit value : ℕ) (rest :
 unit_fits first bytes zero unit value rest grown some = absurd (some refl)
 unit_fits first bytes (suc more) unit value rest grown some = unit_small unit more grown.unit_is
 
-pub last_fits : (first : ℕ) (bytes : List ℕ) (more unit value : ℕ) (rest : List ℕ)
-    → Grown first bytes more unit value rest → more ≡ 0 → unit ≡ 2 ^ 63
-last_fits first bytes more unit value rest grown none =
-    let power : unit * 128 ^ more ≡ unit * 128 ^ 0 = ap (λ (n : ℕ). unit * 128 ^ n) none in
-    omega (arith, power, grown.unit_is)
-
 finished_again : (value unit digit : ℕ) (digits : Option (ℕ × List ℕ))
     → finished value unit (digits >>= λ (more : ℕ × List ℕ). read_as (digit + 128 * more.0) more.1)
     ≡ finished (value + digit * unit) (unit * 128) digits
@@ -219,10 +213,6 @@ pub record Skips {A : Type 0} (tag : ℕ) (part : List ℕ → Option (A × List
   pub fuel : ℕ
   pub enough : length rest ≤ fuel
   pub read : rest_of (repeated tag part bytes) ≡ rest_of (repeated_within fuel tag part rest)
-
-pub skip_first : {A : Type 0} (tag : ℕ) (part : List ℕ → Option (A × List ℕ)) (bytes : List ℕ)
-    → Skips tag part bytes bytes
-skip_first tag part bytes = record { fuel = length bytes; enough = omega arith; read = refl }
 
 one_more : {A : Type 0} (n tag : ℕ) (part : List ℕ → Option (A × List ℕ)) (text after : List ℕ)
     (item : Option (A × List ℕ))

@@ -10,7 +10,7 @@ use Rattle.ev_types.specs.Field.{attribute_text}
 use Rattle.ev_types.specs.declared.event.Attr.{Attr}
 use Rattle.packed_event.specs.Reading.{after_tag, attribute_part, bytes_part, repeated}
 use Rattle.packed_event.proofs.Parts.{done}
-use Rattle.packed_event.proofs.Taken.{Takes, takes_ends, takes_fails, takes_first, takes_more}
+use Rattle.packed_event.proofs.Taken.{Takes, takes_ends, takes_fails, takes_more}
 
 -- ---- a text among those that are read
 
@@ -19,9 +19,6 @@ pub record Seeks (test : List ℕ → Bool) (tag : ℕ) (bytes rest : List ℕ) 
   pub front : List (List ℕ)
   pub takes : Takes tag bytes_part bytes [] rest front
   pub none : list_any test front ≡ false
-
-pub seeks_first : (test : List ℕ → Bool) (tag : ℕ) (bytes : List ℕ) → Seeks test tag bytes bytes
-seeks_first test tag bytes = record { front = []; takes = takes_first tag bytes_part bytes []; none = refl }
 
 one_after : (test : List ℕ → Bool) (front : List (List ℕ)) (text : List ℕ) (b : Bool) → list_any test front ≡ false
     → test text ≡ b → list_any test (front ++ text ∷ []) ≡ b
@@ -67,9 +64,6 @@ pub record Latest (key : List ℕ) (tag : ℕ) (bytes rest : List ℕ) (held : O
   pub front : List Attr
   pub takes : Takes tag attribute_part bytes [] rest front
   pub is : held ≡ attribute_text key front
-
-pub latest_first : (key : List ℕ) (tag : ℕ) (bytes : List ℕ) → Latest key tag bytes bytes None
-latest_first key tag bytes = record { front = []; takes = takes_first tag attribute_part bytes []; is = refl }
 
 abbrev value_of : Attr → Option (List ℕ)
 value_of attribute = attribute.value

@@ -23,14 +23,6 @@ pub record Takes {A : Type 0} (tag : ℕ) (part : List ℕ → Option (A × List
     pub rests : (all : List A) (last : List ℕ) → repeated tag part bytes ≡ done (all, last)
         → Rest fuel tag part (old ++ all) last rest now
 
-pub takes_first : {A : Type 0} (tag : ℕ) (part : List ℕ → Option (A × List ℕ)) (bytes : List ℕ) (old : List A)
-    → Takes tag part bytes old bytes old
-takes_first tag part bytes old = record {
-  fuel = length bytes;
-  enough = omega arith;
-  rests = λ all last e. record { more = all; read = e; whole = refl };
-}
-
 one_less : {A : Type 0} (n tag : ℕ) (part : List ℕ → Option (A × List ℕ)) (all : List A) (last text after : List ℕ)
     (item : A) (now : List A)
     → part text ≡ done (item, after) → Rest (suc n) tag part all last (tag ∷ text) now

@@ -30,13 +30,6 @@ calls_then a b c first second one two = record {
   faults = le_trans one.faults two.faults;
 }
 
--- the calls of links that report nothing but their faults
-pub unreported_calls : (faults faults' : ℕ) (made : List Entry) → faults ≤ faults'
-    → AddsCalls (record { log = None; script = None; faults = faults })
-    (record { log = None; script = None; faults = faults' }) made
-unreported_calls faults faults' made risen =
-    record { log = refl; script = refl; plays = λ plays. plays; faults = risen }
-
 -- calls of links that play a script, which they still play after them
 pub played_calls : (links links' : ScriptedCalls) (made : List Entry) → Some links'.log ≡ grown (Some links.log) made
     → links'.script ≡ links.script → Plays (Some links'.script) (Some links'.log)

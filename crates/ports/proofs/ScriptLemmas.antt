@@ -222,18 +222,6 @@ turn_adds wants buf turn what.Stopped h = refl
 turn_adds wants buf turn what.Failed h = refl
 turn_adds wants buf turn what.Memory h = cc
 
--- a turn is no fault
-pub turn_counts : (faults : ℕ) (answer : What) → is_turn_answer answer ≡ true → HasNextCause faults faults answer
-turn_counts faults what.Idle h = refl
-turn_counts faults (what.Opened link) h = refl
-turn_counts faults (what.Read link count) h = refl
-turn_counts faults (what.Ended link) h = refl
-turn_counts faults (what.Broken link) h = refl
-turn_counts faults (what.Room link) h = refl
-turn_counts faults what.Stopped h = refl
-turn_counts faults what.Failed h = cc
-turn_counts faults what.Memory h = refl
-
 -- links that never fail count nothing, so that another count stays too
 pub listen_counts : (faults : ℕ) (answer : listen_answer.ListenAnswer) → HasListenCause 0 0 answer
     → HasListenCause faults faults answer

@@ -11,8 +11,8 @@ use regex::{Error, Regex, RegexBuilder};
 use std::alloc::{AllocFailed, Global};
 use thiserror::Error;
 
-/// About how many bytes the program of a regular expression may take. One of a larger program is refused. A search
-/// takes time in proportion to the program: at this size a quarter of a microsecond for each byte of a text.
+/// About how many bytes the program of a regular expression may take. One of a larger program is refused. At worst a
+/// search takes time in proportion to the program: at this size a tenth of a millisecond for each byte of a text.
 pub const PROGRAM_BYTES: usize = 65_536;
 
 /// What a pattern's text was built into.

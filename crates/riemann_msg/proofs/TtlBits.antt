@@ -161,13 +161,6 @@ one_spelling bits n some (inr whole) =
     let made : bits ≡ (126 + top_of n) * 2 ^ 23 + s = omega (arith, whole.sign, at) in
     made ∙ ap (λ x. (126 + top_of n) * 2 ^ 23 + x) digits
 
-pub spellable_below : (n : ℕ) → IsSpellableTtl n → n < 2 ^ 32
-spellable_below n found = elim found.1 [
-  | inl none ↦ omega (arith, none.value)
-  | inr whole ↦
-      spelled_below (2 ^ 23 + fraction_of found.0) (exponent_of found.0) n (omega arith) whole.greatest whole.value
-]
-
 -- ---- the seconds by cases
 
 pub seconds_of-zero : (bits : ℕ) → exponent_of bits ≡ 0 → fraction_of bits ≡ 0 → Some 0 ≡ seconds_of bits
