@@ -1,5 +1,5 @@
 -- What a command that is carried out promises, whichever it is.
-use Rattle.std.specs.Prelude.{◌≡◌, ◌≢◌, ◌⊎◌, ◌≤◌, length}
+use Rattle.std.specs.Prelude.{◌≡◌, ◌≢◌, ◌⊎◌, ℕ, ◌≤◌, List, length, Option}
 use Rattle.std.specs.Option.{ForSome}
 use Rattle.command_texts.specs.Checks.{Checks}
 use Rattle.command_client.specs.Asks.{Asks}
@@ -25,6 +25,7 @@ use Rattle.riemann_commands.specs.declared.command.Command.{Command}
 use Rattle.riemann_commands.specs.declared.command.Command.TheVariants.{Feed, Check, Replay, Serve, Load, Graphite}
 use Rattle.riemann_commands.specs.declared.command.Command.TheVariants.{Test, Send, Query, Record, Resume}
 use Rattle.riemann_commands.specs.Promises.{Sameness}
+use Rattle.riemann_commands.specs.Words.{OnFeed, OnGraphite, OnRecord, OnReplay, OnResume, OnServe, OnTest}
 
 -- the numbers and the text of the command are within their limits
 abbrev pub IsWithinLimits : Command → Type 0
@@ -40,66 +41,66 @@ IsWithinLimits (Query address text turns) = length text.now ≤ MAX_BYTES
 IsWithinLimits (Record config journal) = Unit {0}
 IsWithinLimits (Resume journal) = Unit {0}
 
+-- a command with the texts and numbers that the arguments give
+pub data Named : Type 0 where
+  feed : List ℕ → List ℕ → Named
+  check : List ℕ → Named
+  replay : List ℕ → List ℕ → Named
+  serve : List ℕ → ℕ → Named
+  load : List ℕ → ℕ → ℕ → Named
+  graphite : List ℕ → Option ℕ → Named
+  test : List ℕ → List ℕ → Named
+  send : List ℕ → List ℕ → ℕ → Named
+  query : List ℕ → List ℕ → ℕ → Named
+  recording : List ℕ → List ℕ → Named
+  resume : List ℕ → Named
+
+abbrev pub named_by : Command → Named
+named_by (Feed config file) = feed config.now file.now
+named_by (Check config) = check config.now
+named_by (Replay config script) = replay config.now script.now
+named_by (Serve config turns) = serve config.now turns
+named_by (Load config count start) = load config.now count start
+named_by (Graphite file host_part) = graphite file.now host_part
+named_by (Test config tests) = test config.now tests.now
+named_by (Send address file turns) = send address.now file.now turns
+named_by (Query address text turns) = query address.now text.now turns
+named_by (Record config journal) = recording config.now journal.now
+named_by (Resume journal) = resume journal.now
+
 -- what the command promises by itself
-abbrev pub PromiseOf : Command → Reports → Reports → DiskReport → DiskReport → Sameness → Status → Type 0
-PromiseOf (Feed config file) old new disk disk' same status = Feeds config.now file.now old new same.Patterns status
-PromiseOf (Check config) old new disk disk' same status = Checks config.now old new same.Patterns status
-PromiseOf (Replay config script) old new disk disk' same status =
-    Replays config.now script.now old new same.Patterns status
-PromiseOf (Serve config turns) old new disk disk' same status = Serves config.now turns old new same.Patterns status
-PromiseOf (Load config count start) old new disk disk' same status =
-    Loads config.now count start old new same.Patterns status
-PromiseOf (Graphite file host_part) old new disk disk' same status = Converts file.now host_part old new status
-PromiseOf (Test config tests) old new disk disk' same status =
-    RunsTests config.now tests.now old new same.Patterns same.Out status
-PromiseOf (Send address file turns) old new disk disk' same status = Sends address.now file.now turns old new status
-PromiseOf (Query address text turns) old new disk disk' same status = Asks address.now text.now turns old new status
-PromiseOf (Record config journal) old new disk disk' same status =
-    Records config.now journal.now old new disk disk' same.Patterns status
-PromiseOf (Resume journal) old new disk disk' same status = Resumes journal.now old new disk disk' same.Patterns status
+abbrev pub PromiseOf : Named → Reports → Reports → DiskReport → DiskReport → Sameness → Status → Type 0
+PromiseOf (feed config file) old new disk disk' same status = Feeds config file old new same.Patterns status
+PromiseOf (check config) old new disk disk' same status = Checks config old new same.Patterns status
+PromiseOf (replay config script) old new disk disk' same status = Replays config script old new same.Patterns status
+PromiseOf (serve config turns) old new disk disk' same status = Serves config turns old new same.Patterns status
+PromiseOf (load config count start) old new disk disk' same status =
+    Loads config count start old new same.Patterns status
+PromiseOf (graphite file host_part) old new disk disk' same status = Converts file host_part old new status
+PromiseOf (test config tests) old new disk disk' same status =
+    RunsTests config tests old new same.Patterns same.Out status
+PromiseOf (send address file turns) old new disk disk' same status = Sends address file turns old new status
+PromiseOf (query address text turns) old new disk disk' same status = Asks address text turns old new status
+PromiseOf (recording config journal) old new disk disk' same status =
+    Records config journal old new disk disk' same.Patterns status
+PromiseOf (resume journal) old new disk disk' same status = Resumes journal old new disk disk' same.Patterns status
 
--- a fact that need not hold of the tests of a configuration, which may have written lines before a pattern was refused
-abbrev pub UnlessTest : Command → Type 0 → Type 0
-UnlessTest (Test config tests) P = Unit {0}
-UnlessTest _ P = P
+-- the arguments are of no command that writes to the output while it runs
+abbrev pub IsOfNoRun : List (List ℕ) → Type 0
+IsOfNoRun words = OnReplay words (λ config script. ⊥) × OnServe words (λ config turns. ⊥)
+    × OnTest words (λ config tests. ⊥) × OnRecord words (λ config journal. ⊥) × OnResume words (λ journal. ⊥)
 
--- nor of other commands that write to the output while they run
-abbrev pub UnlessRunning : Command → Type 0 → Type 0
-UnlessRunning (Replay config script) P = Unit {0}
-UnlessRunning (Serve config turns) P = Unit {0}
-UnlessRunning (Test config tests) P = Unit {0}
-UnlessRunning (Record config journal) P = Unit {0}
-UnlessRunning (Resume journal) P = Unit {0}
-UnlessRunning _ P = P
-
--- a fact that need not hold of the command whose notices go to the error stream
-abbrev pub UnlessFeed : Command → Type 0 → Type 0
-UnlessFeed (Feed config file) P = Unit {0}
-UnlessFeed _ P = P
-
--- nor of the one that writes a line there for each line that it refuses
-abbrev pub UnlessLines : Command → Type 0 → Type 0
-UnlessLines (Feed config file) P = Unit {0}
-UnlessLines (Graphite file host_part) P = Unit {0}
-UnlessLines _ P = P
-
--- a fact that need not hold of those that keep a journal on the disk
-abbrev pub UnlessJournal : Command → Type 0 → Type 0
-UnlessJournal (Record config journal) P = Unit {0}
-UnlessJournal (Resume journal) P = Unit {0}
-UnlessJournal _ P = P
-
--- The command kept its promise, and those that all commands give (`Promises`).
-pub record CarriesOut (command : Command) (old new : Reports) (disk disk' : DiskReport) (same : Sameness)
-    (status : Status) : Type 0 where
-  pub promise : PromiseOf command old new disk disk' same status
+-- The command of these arguments kept its promise, and those that all commands give (`Promises`).
+pub record CarriesOut (words : List (List ℕ)) (command : Command) (old new : Reports) (disk disk' : DiskReport)
+    (same : Sameness) (status : Status) : Type 0 where
+  pub promise : PromiseOf (named_by command) old new disk disk' same status
   pub not_usage : status ≢ Usage
-  pub untouched : IsRefusal status → UnlessTest command same.Out × same.Links
-  pub memory : status ≡ Memory → UnlessRunning command same.Out
-  pub no_line : HasNoLine status → UnlessLines command same.Err
-  pub done : status ≡ Done → UnlessFeed command same.Err
+  pub untouched : IsRefusal status → (OnTest words (λ config tests. ⊥) → same.Out) × same.Links
+  pub memory : status ≡ Memory → IsOfNoRun words → same.Out
+  pub no_line : HasNoLine status → OnFeed words (λ config file. ⊥) × OnGraphite words (λ file host_part. ⊥) → same.Err
+  pub done : status ≡ Done → OnFeed words (λ config file. ⊥) → same.Err
   pub read_fault : status ≡ ReadFault → Rose old.store.faults new.store.faults
   pub sink_fault : status ≡ SinkFault → Rose old.out.faults new.out.faults ⊎ Rose old.err.faults new.err.faults
   pub link_fault : status ≡ LinkFault → Rose old.links.faults new.links.faults
   pub disk_fault : status ≡ DiskFault → Rose disk.faults disk'.faults
-  pub uncalled : UnlessJournal command same.Disk
+  pub uncalled : OnRecord words (λ config journal. ⊥) × OnResume words (λ journal. ⊥) → same.Disk

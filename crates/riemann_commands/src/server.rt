@@ -1,6 +1,7 @@
-ghost use Rattle.std.specs.Prelude.{◌≡◌};
+ghost use Rattle.std.specs.Prelude.{◌≡◌, ℕ, List};
 ghost use Rattle.command_io.specs.Reports.{reports};
 ghost use Rattle.riemann_commands.specs.Carrying.{CarriesOut, IsWithinLimits};
+ghost use Rattle.riemann_commands.specs.Commands.{IsCommandOf};
 ghost use Rattle.riemann_commands.specs.Promises.{Promises, sameness};
 
 use crate::command::{Command, command_of};
@@ -83,7 +84,8 @@ fn carry_out<S: Store, L: Links, D: Disk, O: Sink, E: Sink, P: Patterns, G: Ledg
     steps: &mut Steps<G>,
 ) -> Status
     requires { IsWithinLimits command }
-    ensures { CarriesOut command.entry (reports (S.report store.old) (L.report links.old)
+    ensures { (words : List (List ℕ)) → IsCommandOf words command.entry
+        → CarriesOut words command.entry (reports (S.report store.old) (L.report links.old)
         (O.report out.old) (E.report err.old) (P.report patterns.old) steps.old.forks)
         (reports (S.report store.new) (L.report links.new) (O.report out.new) (E.report err.new)
         (P.report patterns.new) steps.new.forks) (D.report disk.old) (D.report disk.new)
