@@ -1,10 +1,10 @@
-ghost use Rattle.std.specs.Prelude.{◌≡◌, ℕ, length, true, false, Option, Some, None, Ok, IsSome, IfErr, IfNone, IfOk, IfSome, OnErr, OnOk};
+ghost use Rattle.std.specs.Prelude.{◌≡◌, ◌≢◌, ℕ, length, true, false, Option, Some, None, Ok, IsSome, IfErr, IfNone, IfOk, IfSome, OnErr, OnOk};
 ghost use Rattle.std.specs.HashMap.{IsUnchanged};
 ghost use Rattle.std.specs.IoError.{raw_os_error};
 ghost use Rattle.std.specs.Duration.{as_nanos};
 ghost use Rattle.std.specs.Option.{option_map, ForSome};
 ghost use Rattle.ports.specs.Links.{IsPieceWithin, IsWithin};
-ghost use Rattle.mio_links.specs.Refusals.{IsOfLack, IsOfListener, IsOfOneConnection};
+ghost use Rattle.mio_links.specs.Refusals.{refusal_by};
 ghost use Rattle.mio_links.specs.Turns.{IsGiven, IsOn, OfLink, OpensAt};
 
 use crate::accept::{Refusal, refusal_of};
@@ -333,11 +333,11 @@ impl Sockets {
     /// Keeps when the listener has to be asked again. An error without a number of the system is of one connection.
     fn note_refusal(&mut self, error: &io::Error) -> Result<(), LinksFault>
         ensures failed { IfErr result (λ fault. fault ≡ LinksFault.Failed →
-            IsOfListener (raw_os_error error.now)) }
-        ensures goes_on { OnOk result (¬ IsOfListener (raw_os_error error.now)) }
-        ensures lack { OnOk result (IsOfLack (raw_os_error error.now)
+            refusal_by (raw_os_error error.now) ≡ Refusal.Listener) }
+        ensures goes_on { OnOk result (refusal_by (raw_os_error error.now) ≢ Refusal.Listener) }
+        ensures lack { OnOk result (refusal_by (raw_os_error error.now) ≡ Refusal.Lack
             → self.new.lacking ≡ true) }
-        ensures next { OnOk result (IsOfOneConnection (raw_os_error error.now)
+        ensures next { OnOk result (refusal_by (raw_os_error error.now) ≡ Refusal.OneConnection
             → self.new.listening ≡ true) }
         ensures clients { self.new.clients ≡ self.old.clients }
         ensures arrived { self.new.arrived ≡ self.old.arrived }
