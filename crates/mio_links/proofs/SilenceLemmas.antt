@@ -1,9 +1,13 @@
 -- The search for the link that was silent longest, step by step.
-use Rattle.std.proofs.Common.{ℕ, ◌+◌, ◌<◌, ◌≤◌, List, length, take, get_or, Option, subst}
+use Rattle.std.proofs.Common.{◌≡◌, ℕ, ◌+◌, ◌<◌, ◌≤◌, List, length, take, get_or, Option, subst}
 use Rattle.std.proofs.lemmas.List.{take_all}
 use Rattle.std.proofs.lemmas.List.Elements.{All-more}
+use Rattle.std.specs.Prelude.{nat_eq}
+use Rattle.std.specs.List.{All}
+use Rattle.std.specs.HashMap.{get}
+use Rattle.std.specs.Option.{option_map}
 use Rattle.ports.specs.declared.links.Want.{Want}
-use Rattle.mio_links.specs.Silence.{AreNoLonger, IsNoLonger, heard_of}
+use Rattle.mio_links.specs.Silence.{AreNoLonger, IsNoLonger, IsRecent, NoneIsGivenUp, heard_of}
 use Rattle.mio_links.specs.declared.sockets.Heard.{Heard}
 use Rattle.mio_links.specs.declared.sockets.Sockets.{Sockets}
 
@@ -22,3 +26,10 @@ pub all_of : (sockets : Sockets) (wants : List Want) (i : ℕ) (found : Option H
     → AreNoLonger sockets (take i wants) found → AreNoLonger sockets wants found
 all_of sockets wants i found long before =
     subst (λ looked. AreNoLonger sockets looked found) (take_all i wants long) before
+
+-- no link is given up where none of the same clients is
+pub same_silence : (sockets other : Sockets) (wants : List Want) (secs : ℕ) → other.clients ≡ sockets.clients
+    → NoneIsGivenUp other wants secs → NoneIsGivenUp sockets wants secs
+same_silence sockets other wants secs same =
+    subst (λ clients. 256 ≤ length wants
+    → All (λ want. IsRecent secs (option_map (λ client. client.heard) (get nat_eq clients want.link))) wants) same

@@ -16,6 +16,10 @@ next_source queue = if nat_lt 1 queue.left then slice_get queue.sources.items 0
 abbrev pub is_over : Queue → Bool
 is_over queue = (queue.left == 0) || (queue.left == 1) && (deque_len queue.put_off == 0)
 
+-- a source more can wait for its turn only with more memory
+abbrev pub IsFull : Queue → Type 0
+IsFull queue = deque_capacity queue.sources ≤ deque_len queue.sources
+
 -- one link more can wait, and no memory is needed for it
 abbrev pub HasRoom : Queue → Type 0
 HasRoom queue = (deque_len queue.sources + 1 ≤ deque_capacity queue.sources)

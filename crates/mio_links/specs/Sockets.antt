@@ -4,6 +4,7 @@ use Rattle.std.specs.HashMap.{get}
 use Rattle.std.specs.Option.{option_map, ForSome}
 use Rattle.ports.specs.declared.links.What.{What}
 use Rattle.ports.specs.declared.links.What.TheVariants.{Read}
+use Rattle.mio_links.specs.Queues.{IsFull}
 use Rattle.mio_links.specs.declared.client.Waiting.TheVariants.{PutOff}
 use Rattle.mio_links.specs.declared.share.Share.{Share}
 use Rattle.mio_links.specs.declared.sockets.Sockets.{Sockets}
@@ -16,6 +17,10 @@ has_link sockets link = is_some (get nat_eq sockets.clients link)
 abbrev pub IsOpenOn : Option Sockets → ℕ → Type 0
 IsOpenOn None link = ⊥
 IsOpenOn (Some sockets) link = has_link sockets link ≡ true
+
+-- one source more can wait only with more memory, on sockets that may not be there yet
+abbrev pub IsFullOn : Option Sockets → Type 0
+IsFullOn sockets = ForSome sockets (λ sockets. IsFull sockets.queue)
 
 -- how much of the link is read at once, if it is open
 abbrev pub share_of : Sockets → ℕ → Option Share

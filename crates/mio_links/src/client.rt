@@ -1,4 +1,4 @@
-ghost use Rattle.std.specs.Prelude.{◌≡◌, length, IfSome};
+ghost use Rattle.std.specs.Prelude.{◌≡◌, ◌≢◌, length, IfSome};
 ghost use Rattle.std.specs.Io.KnownBytes.{Consumes, Keeps};
 ghost use Rattle.ports.specs.Links.{IsPieceWithin, IsWithin};
 ghost use Rattle.mio_links.specs.Turns.{IsGiven, IsOn};
@@ -185,6 +185,7 @@ impl<S: Read + Write> Client<S> {
     #[tactic(auto, using(crate::proofs::StreamLemmas::kept_nothing, crate::proofs::StreamLemmas::took_nothing))]
     pub(crate) fn send(&mut self, bytes: &[u8]) -> SendAnswer
         ensures within { IsWithin (length bytes.now) result }
+        ensures no_memory { result ≢ SendAnswer.Memory }
 
         // What was taken is what the stream got.
         ensures bytes { Took (S.contents self.old.stream) (S.contents self.new.stream)

@@ -1,4 +1,4 @@
-ghost use Rattle.std.specs.Prelude.{◌≡◌, length, IfErr, IfOk, IfSome};
+ghost use Rattle.std.specs.Prelude.{◌≡◌, ◌≢◌, length, IfErr, IfOk, IfSome};
 ghost use Rattle.ports.specs.Links.{IsPieceWithin, IsWithin};
 ghost use Rattle.mio_links.specs.Turns.{IsGiven, IsOn, OfLink};
 
@@ -171,7 +171,8 @@ impl Dial {
 
     /// Offers the bytes to the link. One that is not open takes none.
     pub(crate) fn send(&mut self, link: u64, bytes: &[u8]) -> SendAnswer
-        ensures { IsWithin (length bytes.now) result }
+        ensures within { IsWithin (length bytes.now) result }
+        ensures no_memory { result ≢ SendAnswer.Memory }
     {
         let Some(client) = &mut self.client else {
             return SendAnswer::Failed;

@@ -156,6 +156,9 @@ impl<'a, R: Net + Clock> Links for DialLinks<'a, R> {
             (report_of self.new.calls self.new.faults)
             (send_entries link bytes.now result) }
         ensures no_fault { self.new.faults ≡ self.old.faults }
+
+        // More than links must report: it needs no memory.
+        ensures no_memory { result ≢ SendAnswer.Memory }
     {
         let answer = match &mut self.dial {
             Some(dial) => dial.send(link, bytes),

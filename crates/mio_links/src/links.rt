@@ -1,4 +1,4 @@
-ghost use Rattle.std.specs.Prelude.{◌≡◌, ◌≢◌, ◌+◌, ◌<◌, ◌≤◌, [], ◌∷◌, length, nat_lt, if◌then◌else◌, IfOk, OnErr, OnOk};
+ghost use Rattle.std.specs.Prelude.{◌≡◌, ◌≢◌, ℕ, ◌+◌, ◌<◌, ◌≤◌, [], ◌∷◌, length, nat_lt, if◌then◌else◌, IfOk, OnErr, OnOk};
 ghost use Rattle.ev_types.specs.Clock.{seconds_per_turn_limit};
 ghost use Rattle.ports.specs.Calls.{AddsCalls};
 ghost use Rattle.ports.specs.Links.{HasListenCause, HasNextCause, IsPieceWithin, IsWithin, listen_entries, next_entries, send_entries};
@@ -6,7 +6,7 @@ ghost use Rattle.ports.specs.declared.entry.Entry.TheVariants.{Close};
 ghost use Rattle.mio_links.specs.Readings.{BeginsAt, TookReading};
 ghost use Rattle.mio_links.specs.Reports.{report_of};
 ghost use Rattle.mio_links.specs.Turns.{CountsOpened, IsGiven, OfLink, OpensAt};
-ghost use Rattle.mio_links.specs.Sockets.{IsOpenOn, IsWithinShareOn};
+ghost use Rattle.mio_links.specs.Sockets.{IsFullOn, IsOpenOn, IsWithinShareOn};
 
 use crate::fault::LinksFault;
 use crate::readings::Readings;
@@ -76,6 +76,7 @@ impl<'a, R: Net + Clock + CpuClock> MioLinks<'a, R> {
         ensures opened { self.new.opened ≡ self.old.opened }
         ensures calls { self.new.calls ≡ self.old.calls }
         ensures readings { BeginsAt self.new.readings result }
+        ensures no_memory { result ≢ ListenAnswer.Memory }
     {
         match Sockets::open(self.rt, alloc, address) {
             Ok(sockets) => {
@@ -85,11 +86,10 @@ impl<'a, R: Net + Clock + CpuClock> MioLinks<'a, R> {
                     secs: self.readings.last,
                 }
             }
-            Err(LinksFault::Failed) => {
+            Err(_) => {
                 self.faults = self.faults.saturating_add(1);
                 ListenAnswer::Failed
             }
-            Err(LinksFault::Memory) => ListenAnswer::Memory,
         }
     }
 
@@ -177,9 +177,11 @@ impl<'a, R: Net + Clock + CpuClock> Links for MioLinks<'a, R> {
             (listen_entries address.now result) }
         ensures cause { HasListenCause self.old.faults self.new.faults result }
 
-        // More than links must report: the numbers of links do not begin again, and the readings of the clock do.
+        // More than links must report: the numbers of links do not begin again, the readings of the clock do, and no
+        // memory is needed.
         ensures opened { self.new.opened ≡ self.old.opened }
         ensures readings { BeginsAt self.new.readings result }
+        ensures no_memory { result ≢ ListenAnswer.Memory }
     {
         let answer = self.listen_on(alloc, address);
         log_listen(&mut self.calls, address, answer);
@@ -224,9 +226,11 @@ impl<'a, R: Net + Clock + CpuClock> Links for MioLinks<'a, R> {
             (send_entries link bytes.now result) }
         ensures no_fault { self.new.faults ≡ self.old.faults }
 
-        // More than links must report: it opens no link, and reads no clock.
+        // More than links must report: it opens no link, reads no clock, and needs memory only to queue a link where
+        // there is no room.
         ensures opened { self.new.opened ≡ self.old.opened }
         ensures readings { self.new.readings ≡ self.old.readings }
+        ensures full { result ≡ SendAnswer.Memory → IsFullOn self.old.sockets }
     {
         let answer = match &mut self.sockets {
             Some(sockets) => sockets.send(link, bytes),
@@ -243,7 +247,11 @@ impl<'a, R: Net + Clock + CpuClock> Links for MioLinks<'a, R> {
             (Close link ∷ []) }
         ensures no_fault { self.new.faults ≡ self.old.faults }
 
-        // More than links must report: its number is not given again, and no clock is read.
+        // More than links must report: it is not open any more, and all others are. Its number is not given again, and
+        // no clock is read.
+        ensures closed { ¬ IsOpenOn self.new.sockets link }
+        ensures others { (other : ℕ) → other ≢ link → IsOpenOn self.old.sockets other
+            → IsOpenOn self.new.sockets other }
         ensures opened { self.new.opened ≡ self.old.opened }
         ensures readings { self.new.readings ≡ self.old.readings }
     {

@@ -1,4 +1,4 @@
-ghost use Rattle.std.specs.Prelude.{◌≡◌, ◌-◌, ◌++◌, ◌∷◌, [], IfErr, OnOk};
+ghost use Rattle.std.specs.Prelude.{◌≡◌, ◌-◌, ◌++◌, ◌∷◌, [], IfErr, IsOk, OnErr, OnOk};
 
 use crate::client::{Client, Waiting};
 use crate::fault::LinksFault;
@@ -29,7 +29,7 @@ pub(crate) struct Queue {
 }
 
 impl Queue {
-    ghost use Rattle.mio_links.specs.Queues.{HasRoom, is_over, next_source};
+    ghost use Rattle.mio_links.specs.Queues.{HasRoom, IsFull, is_over, next_source};
 
     pub(crate) fn fresh(alloc: Global) -> Queue {
         Queue {
@@ -88,7 +88,8 @@ impl Queue {
 
     /// Adds a source at the end.
     pub(crate) fn push(&mut self, source: Source) -> Result<(), LinksFault>
-        ensures { IfErr result (λ fault. fault ≡ LinksFault.Memory) }
+        ensures memory { IfErr result (λ fault. fault ≡ LinksFault.Memory) }
+        ensures full { OnErr result (IsFull self.old) }
     {
         self.sources.push_back(source)?;
         Ok(())
@@ -97,6 +98,7 @@ impl Queue {
     /// Takes memory for one link more, wherever it will wait.
     pub(crate) fn make_room(&mut self) -> Result<(), LinksFault>
         ensures room { OnOk result (HasRoom self.new) }
+        ensures reserved { HasRoom self.old → IsOk result }
     {
         self.sources.reserve(1)?;
         self.put_off.reserve(1)?;

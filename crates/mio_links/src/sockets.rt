@@ -1,4 +1,4 @@
-ghost use Rattle.std.specs.Prelude.{◌≡◌, ◌≢◌, ℕ, length, true, false, Option, Some, None, Ok, IsSome, IfErr, IfNone, IfOk, IfSome, OnErr, OnOk};
+ghost use Rattle.std.specs.Prelude.{◌≡◌, ◌≢◌, ℕ, length, true, false, Option, Some, None, Ok, IsOk, IsSome, IfErr, IfNone, IfOk, IfSome, OnErr, OnOk};
 ghost use Rattle.std.specs.HashMap.{IsUnchanged};
 ghost use Rattle.std.specs.IoError.{raw_os_error};
 ghost use Rattle.std.specs.Duration.{as_nanos};
@@ -58,15 +58,13 @@ pub struct Sockets {
 impl Sockets {
     ghost use Rattle.mio_links.specs.Sockets.{has_link, share_of, IsWithinShare, MayHaveTurn};
     ghost use Rattle.mio_links.specs.Shares.{is_long, weighed};
-    ghost use Rattle.mio_links.specs.Queues.{is_over};
+    ghost use Rattle.mio_links.specs.Queues.{HasRoom, IsFull, is_over};
     ghost use Rattle.mio_links.specs.Silence.{AreNoLonger, GivesUp, IsGivenUp, IsNoLonger, NoneIsGivenUp, heard_of};
 
     /// Listens on the first address of `HOST:PORT` on which it can. A host's name is looked up.
-    pub(crate) fn open<R: Net>(
-        rt: &R,
-        alloc: Global,
-        address: &Text,
-    ) -> Result<Sockets, LinksFault> {
+    pub(crate) fn open<R: Net>(rt: &R, alloc: Global, address: &Text) -> Result<Sockets, LinksFault>
+        ensures no_memory { IfErr result (λ fault. fault ≡ LinksFault.Failed) }
+    {
         let poll = Poll::new(rt)?;
         let mut listener = bind(rt, address.as_str())?;
         poll.registry()
@@ -257,8 +255,9 @@ impl Sockets {
         // One whose last read was dear has its turn after all others of the round.
         ensures dear_last { IfOk result (λ found. IfSome found (λ _. MayHaveTurn self.old link)) }
 
-        // Where memory runs out, nothing was read.
+        // Where memory runs out, nothing was read. It does not if there is room for one link more.
         ensures untouched { OnErr result (self.new.clients ≡ self.old.clients) }
+        ensures reserved { HasRoom self.old.queue → IsOk result }
     {
         self.queue.make_room()?;
         let Some(client) = self.clients.get_mut(&link) else {
@@ -279,6 +278,7 @@ impl Sockets {
 
     /// The same of the listener. Where as many links are connected as are served at once, one that was silent for long
     /// has to go first.
+    #[tactic(auto, using(crate::proofs::SilenceLemmas::same_silence))]
     fn accept(
         &mut self,
         next_link: u64,
@@ -292,6 +292,8 @@ impl Sockets {
         ensures opens { IfOk result (λ found. IfSome found (OpensAt next_link)) }
         ensures share { IfOk result (λ found. IfSome found (IsWithinShare self.new)) }
         ensures gives_up { IfOk result (λ found. IfSome found (GivesUp self.new wants.now secs)) }
+        ensures opens_last { result ≡ Ok (Some (What.Opened next_link))
+            → NoneIsGivenUp self.old wants.now secs }
 
         // Where a connection arrived, the listener is asked for the next one.
         ensures listens { IfOk result (λ found. IsSome found → self.new.listening ≡ true) }
@@ -426,7 +428,8 @@ impl Sockets {
 
     /// Offers the bytes to the link. A link that is not open takes none.
     pub(crate) fn send(&mut self, link: u64, bytes: &[u8]) -> SendAnswer
-        ensures { IsWithin (length bytes.now) result }
+        ensures within { IsWithin (length bytes.now) result }
+        ensures full { result ≡ SendAnswer.Memory → IsFull self.old.queue }
     {
         let Some(client) = self.clients.get_mut(&link) else {
             return SendAnswer::Failed;
@@ -442,7 +445,11 @@ impl Sockets {
     }
 
     /// Closes the link.
-    pub(crate) fn close(&mut self, link: u64) {
+    pub(crate) fn close(&mut self, link: u64)
+        ensures closed { has_link self.new link ≡ false }
+        ensures others { (other : ℕ) → other ≢ link →
+            has_link self.new other ≡ has_link self.old other }
+    {
         let _ = self.clients.remove(&link);
     }
 }
