@@ -3,13 +3,6 @@ use Rattle.pb_wire.specs.Spelling.{bytes_head}
 use Rattle.riemann_msg.proofs.Spelled.{begins0, not_written, prefix_same}
 use Rattle.riemann_msg.proofs.write.put_head.Goals as goal
 
-pub returns-in_err-len-clause-ok : goal.returns-in_err-len-clause-ok
-returns-in_err-len-clause-ok c = not_written _ c.from_residual.result _ c.from_residual.ensures.1
-
-pub returns-in_err-len-clause-err : goal.returns-in_err-len-clause-err
-returns-in_err-len-clause-err c =
-    begins0 c.from_residual.result c.args.out.now c.args.out.now (prefix_same c.args.out.now)
-
 pub returns-clause-ok : goal.returns-clause-ok
 returns-clause-ok c = λ n counted.
     let is : c.in_ok-len.len ≡ n = rw c.in_ok-len.was at counted in
