@@ -11,9 +11,7 @@ use Rattle.command_client.specs.declared.ending.ClientEnding.TheVariants.{Shared
 without_disk : ((ending : Ending) → shared.status_of ending ≡ DiskFault → ⊥) → (ending : ClientEnding)
     → status_of ending ≡ DiskFault → ⊥
 without_disk others (Shared ending) e = others ending e
-without_disk others (Lost replies requests) e = cc
-without_disk others (Unasked number) e = cc
-without_disk others (Refused number place why) e = cc
+without_disk others _ e = cc
 
 -- no call of a disk failed, since none is made
 pub not_of_disk : ((ending : Ending) → shared.status_of ending ≡ DiskFault → ⊥)

@@ -72,8 +72,7 @@ bytes_cut setup bytes old new run ran cause.Memory is cut same works rose quiet 
 pub run_was_cut : {T : Type 0} (ran : Result T RunFault) (fault : RunFault) → ran ≡ Err fault → ran ≢ Err cause.Links
     → IsAfterRun (ending_of_fault fault)
 run_was_cut ran cause.Links is works = works is
-run_was_cut ran cause.Sink is works = tt
-run_was_cut ran cause.Memory is works = tt
+run_was_cut ran _ is works = tt
 
 -- after a whole run the replies were written, or a prefix of them
 pub bytes_ended : FeedsAreAnswered
@@ -96,9 +95,4 @@ bytes_ended answered setup bytes old new run WriteFailed whole quiet writes =
           writes.0,
       writes.1,
     )
-bytes_ended answered setup bytes old new run OutOfMemory whole quiet writes = absurd writes
-bytes_ended answered setup bytes old new run (ConfigRefused refusal) whole quiet writes = absurd writes
-bytes_ended answered setup bytes old new run (Unread unread) whole quiet writes = absurd writes
-bytes_ended answered setup bytes old new run (OverLimit over limit) whole quiet writes = absurd writes
-bytes_ended answered setup bytes old new run LinksFailed whole quiet writes = absurd writes
-bytes_ended answered setup bytes old new run (ScriptRefused line) whole quiet writes = absurd writes
+bytes_ended answered setup bytes old new run _ whole quiet writes = absurd writes

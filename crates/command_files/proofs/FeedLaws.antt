@@ -55,11 +55,7 @@ bytes_not_read setup bytes old new Finished ends e = cc
 bytes_not_read setup bytes old new (BytesLeft count) ends e = cc
 bytes_not_read setup bytes old new WriteFailed ends e = cc
 bytes_not_read setup bytes old new OutOfMemory ends e = cc
-bytes_not_read setup bytes old new (ConfigRefused refusal) ends e = ends
-bytes_not_read setup bytes old new (Unread unread) ends e = ends
-bytes_not_read setup bytes old new (OverLimit over limit) ends e = ends
-bytes_not_read setup bytes old new LinksFailed ends e = ends
-bytes_not_read setup bytes old new (ScriptRefused line) ends e = ends
+bytes_not_read setup bytes old new _ ends e = ends
 
 bytes_not_linked : (setup : Setup) (bytes : List ℕ) (old new : Reports) (ending : Ending)
     → BytesEnd setup bytes old new ending → status_of ending ≡ LinkFault → ⊥
@@ -67,35 +63,17 @@ bytes_not_linked setup bytes old new Finished ends e = cc
 bytes_not_linked setup bytes old new (BytesLeft count) ends e = cc
 bytes_not_linked setup bytes old new WriteFailed ends e = cc
 bytes_not_linked setup bytes old new OutOfMemory ends e = cc
-bytes_not_linked setup bytes old new (ConfigRefused refusal) ends e = ends
-bytes_not_linked setup bytes old new (Unread unread) ends e = ends
-bytes_not_linked setup bytes old new (OverLimit over limit) ends e = ends
-bytes_not_linked setup bytes old new LinksFailed ends e = ends
-bytes_not_linked setup bytes old new (ScriptRefused line) ends e = ends
+bytes_not_linked setup bytes old new _ ends e = ends
 
 file_not_linked : (name : List ℕ) (old new : StoreReport) (ending : Ending) → RefusesFile name old new ending
     → status_of ending ≡ LinkFault → ⊥
-file_not_linked name old new Finished refuses e = cc
-file_not_linked name old new (ConfigRefused refusal) refuses e = cc
-file_not_linked name old new (Unread unread) refuses e = cc
-file_not_linked name old new (OverLimit over limit) refuses e = cc
-file_not_linked name old new (BytesLeft count) refuses e = cc
-file_not_linked name old new WriteFailed refuses e = cc
 file_not_linked name old new LinksFailed refuses e = refuses
-file_not_linked name old new (ScriptRefused line) refuses e = cc
-file_not_linked name old new OutOfMemory refuses e = cc
+file_not_linked name old new _ refuses e = cc
 
 file_not_written : (name : List ℕ) (old new : StoreReport) (ending : Ending) → RefusesFile name old new ending
     → status_of ending ≡ SinkFault → ⊥
-file_not_written name old new Finished refuses e = cc
-file_not_written name old new (ConfigRefused refusal) refuses e = cc
-file_not_written name old new (Unread unread) refuses e = cc
-file_not_written name old new (OverLimit over limit) refuses e = cc
-file_not_written name old new (BytesLeft count) refuses e = cc
 file_not_written name old new WriteFailed refuses e = refuses
-file_not_written name old new LinksFailed refuses e = cc
-file_not_written name old new (ScriptRefused line) refuses e = cc
-file_not_written name old new OutOfMemory refuses e = cc
+file_not_written name old new _ refuses e = cc
 
 -- ---- the causes of faults
 
@@ -109,11 +87,7 @@ bytes_wrote setup bytes old new WriteFailed ends e = elim ends [
 bytes_wrote setup bytes old new Finished ends e = cc
 bytes_wrote setup bytes old new (BytesLeft count) ends e = cc
 bytes_wrote setup bytes old new OutOfMemory ends e = cc
-bytes_wrote setup bytes old new (ConfigRefused refusal) ends e = absurd ends
-bytes_wrote setup bytes old new (Unread unread) ends e = absurd ends
-bytes_wrote setup bytes old new (OverLimit over limit) ends e = absurd ends
-bytes_wrote setup bytes old new LinksFailed ends e = absurd ends
-bytes_wrote setup bytes old new (ScriptRefused line) ends e = absurd ends
+bytes_wrote setup bytes old new _ ends e = absurd ends
 
 pub feed_read_rose : (config file : List ℕ) (old new : Reports) (Unasked : Type 0) (ending : Ending)
     → FeedEnds config file old new Unasked ending
@@ -153,14 +127,7 @@ feed_not_linked config file old new Unasked ending ends e = elim ends [
 -- after a write that failed nothing more is written
 said_nothing : (ending : Ending) (old new : SinkReport) → Says ending old new → status_of ending ≡ SinkFault → new ≡ old
 said_nothing WriteFailed old new says e = says
-said_nothing Finished old new says e = cc
-said_nothing (BytesLeft count) old new says e = cc
-said_nothing OutOfMemory old new says e = cc
-said_nothing (ConfigRefused refusal) old new says e = cc
-said_nothing (Unread unread) old new says e = cc
-said_nothing (OverLimit over limit) old new says e = cc
-said_nothing LinksFailed old new says e = cc
-said_nothing (ScriptRefused line) old new says e = cc
+said_nothing _ old new says e = cc
 
 -- so what is known of the error stream before the line of the ending is known of it after that
 pub feed_write_rose : (config file : List ℕ) (old new : Reports) (Unasked : Type 0) (after : SinkReport)
@@ -196,11 +163,7 @@ bytes_complete setup bytes old new WriteFailed ends out_still err_still = elim e
   | inl some ↦ absurd (let still = err_still refl in omega (arith, some.1, still.0, still.1))
   | inr all ↦ absurd (omega (arith, all.1, out_still.0, out_still.1))
 ]
-bytes_complete setup bytes old new (ConfigRefused refusal) ends out_still err_still = absurd ends
-bytes_complete setup bytes old new (Unread unread) ends out_still err_still = absurd ends
-bytes_complete setup bytes old new (OverLimit over limit) ends out_still err_still = absurd ends
-bytes_complete setup bytes old new LinksFailed ends out_still err_still = absurd ends
-bytes_complete setup bytes old new (ScriptRefused line) ends out_still err_still = absurd ends
+bytes_complete setup bytes old new _ ends out_still err_still = absurd ends
 
 feed_complete : (config file : List ℕ) (old new : Reports) (Unasked : Type 0) (text bytes : List ℕ) (read : Config)
     (ending : Ending)

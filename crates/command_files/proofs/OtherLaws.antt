@@ -41,58 +41,35 @@ other_unread old new name shown file.Memory grew =
 
 pub run_not_refused : (ending : Ending) → IsAfterRun ending → IsRefusal (status_of ending) → ⊥
 run_not_refused Finished after refusal = refusal
-run_not_refused (ConfigRefused why) after refusal = after
-run_not_refused (Unread unread) after refusal = after
-run_not_refused (OverLimit over limit) after refusal = after
 run_not_refused (BytesLeft count) after refusal = refusal
 run_not_refused WriteFailed after refusal = refusal
-run_not_refused LinksFailed after refusal = after
-run_not_refused (ScriptRefused line) after refusal = after
 run_not_refused OutOfMemory after refusal = refusal
+run_not_refused _ after refusal = after
 
 -- ---- the file was refused
 
 pub file_rose : (name : List ℕ) (old new : StoreReport) (ending : Ending) → RefusesFile name old new ending
     → status_of ending ≡ ReadFault
     → Rose old.faults new.faults
-file_rose name old new Finished refuses e = cc
-file_rose name old new (ConfigRefused refusal) refuses e = cc
 file_rose name old new (Unread unread) refuses e = refuses.0
-file_rose name old new (OverLimit over limit) refuses e = cc
-file_rose name old new (BytesLeft count) refuses e = cc
-file_rose name old new WriteFailed refuses e = cc
-file_rose name old new LinksFailed refuses e = cc
-file_rose name old new (ScriptRefused line) refuses e = cc
-file_rose name old new OutOfMemory refuses e = cc
+file_rose name old new _ refuses e = cc
 
 -- a file within its limit is refused only for lack of memory, where no fault is counted
 pub file_refused_for_memory : (name bytes : List ℕ) (old new : StoreReport) (ending : Ending)
     → IsHeld (old.held name) bytes
     → length bytes ≤ FILE_LIMIT → IsStill old.faults new.faults → RefusesFile name old new ending → ending ≡ OutOfMemory
-file_refused_for_memory name bytes old new Finished holds fits still refuses = absurd refuses
-file_refused_for_memory name bytes old new (ConfigRefused refusal) holds fits still refuses = absurd refuses
 file_refused_for_memory name bytes old new (Unread unread) holds fits still refuses =
     absurd (omega (arith, refuses.0, still.0, still.1))
 file_refused_for_memory name bytes old new (OverLimit over limit) holds fits still refuses =
     absurd (not_over (old.held name) bytes FILE_LIMIT holds fits refuses.0)
-file_refused_for_memory name bytes old new (BytesLeft count) holds fits still refuses = absurd refuses
-file_refused_for_memory name bytes old new WriteFailed holds fits still refuses = absurd refuses
-file_refused_for_memory name bytes old new LinksFailed holds fits still refuses = absurd refuses
-file_refused_for_memory name bytes old new (ScriptRefused line) holds fits still refuses = absurd refuses
 file_refused_for_memory name bytes old new OutOfMemory holds fits still refuses = refl
+file_refused_for_memory name bytes old new _ holds fits still refuses = absurd refuses
 
 -- ---- both files
 
 counted_after : (ending : Ending) (count : ℕ) → IsReadOnce ending count → IsReadTwice ending (suc count)
-counted_after Finished count counted = ap suc counted
-counted_after (ConfigRefused refusal) count counted = ap suc counted
-counted_after (Unread unread) count counted = ap suc counted
-counted_after (OverLimit over limit) count counted = ap suc counted
-counted_after (BytesLeft left) count counted = ap suc counted
-counted_after WriteFailed count counted = ap suc counted
-counted_after LinksFailed count counted = ap suc counted
-counted_after (ScriptRefused line) count counted = ap suc counted
 counted_after OutOfMemory count counted = tt
+counted_after _ count counted = ap suc counted
 
 -- the configuration was read, and then the other file
 pub both_read : (old mid new : Option (List StoreRead)) (config other : List ℕ) (ending : Ending)

@@ -38,8 +38,7 @@ play_cut setup script old new run ran cause.Memory is cut works rose quiet =
 pub run_was_cut : {T : Type 0} (ran : Result T RunFault) (fault : RunFault) → ran ≡ Err fault → ran ≢ Err cause.Links
     → IsAfterRun (ending_of_fault fault)
 run_was_cut ran cause.Links is works = works is
-run_was_cut ran cause.Sink is works = tt
-run_was_cut ran cause.Memory is works = tt
+run_was_cut ran _ is works = tt
 
 -- after a whole run the lines were written, or a prefix of them
 pub play_ended : (setup : Setup) (script : Script) (old new : Reports) (before : SinkReport) (run : List Entry)
@@ -52,9 +51,4 @@ play_ended setup script old new before run WriteFailed ran same writes =
     (rw same at writes.1, inr (record { run = run; before = before; ran = ran; wrote = writes.0 }))
 play_ended setup script old new before run OutOfMemory ran same writes =
     (rw same at writes.1, inr (record { run = run; before = before; ran = ran; wrote = writes.0 }))
-play_ended setup script old new before run (ConfigRefused refusal) ran same writes = absurd writes
-play_ended setup script old new before run (Unread unread) ran same writes = absurd writes
-play_ended setup script old new before run (OverLimit over limit) ran same writes = absurd writes
-play_ended setup script old new before run (BytesLeft count) ran same writes = absurd writes
-play_ended setup script old new before run LinksFailed ran same writes = absurd writes
-play_ended setup script old new before run (ScriptRefused line) ran same writes = absurd writes
+play_ended setup script old new before run _ ran same writes = absurd writes

@@ -57,48 +57,24 @@ play_not_read : (setup : Setup) (script : Script) (old new : Reports) (ending : 
 play_not_read setup script old new Finished ends e = cc
 play_not_read setup script old new WriteFailed ends e = cc
 play_not_read setup script old new OutOfMemory ends e = cc
-play_not_read setup script old new (ConfigRefused refusal) ends e = ends
-play_not_read setup script old new (Unread unread) ends e = ends
-play_not_read setup script old new (OverLimit over limit) ends e = ends
-play_not_read setup script old new (BytesLeft count) ends e = ends
-play_not_read setup script old new LinksFailed ends e = ends
-play_not_read setup script old new (ScriptRefused line) ends e = ends
+play_not_read setup script old new _ ends e = ends
 
 play_not_linked : (setup : Setup) (script : Script) (old new : Reports) (ending : Ending)
     → PlayEnds setup script old new ending → status_of ending ≡ LinkFault → ⊥
 play_not_linked setup script old new Finished ends e = cc
 play_not_linked setup script old new WriteFailed ends e = cc
 play_not_linked setup script old new OutOfMemory ends e = cc
-play_not_linked setup script old new (ConfigRefused refusal) ends e = ends
-play_not_linked setup script old new (Unread unread) ends e = ends
-play_not_linked setup script old new (OverLimit over limit) ends e = ends
-play_not_linked setup script old new (BytesLeft count) ends e = ends
-play_not_linked setup script old new LinksFailed ends e = ends
-play_not_linked setup script old new (ScriptRefused line) ends e = ends
+play_not_linked setup script old new _ ends e = ends
 
 script_not_linked : (name : List ℕ) (old new : StoreReport) (ending : Ending) → RefusesScript name old new ending
     → status_of ending ≡ LinkFault → ⊥
-script_not_linked name old new Finished refuses e = cc
-script_not_linked name old new (ConfigRefused refusal) refuses e = cc
-script_not_linked name old new (Unread unread) refuses e = cc
-script_not_linked name old new (OverLimit over limit) refuses e = cc
-script_not_linked name old new (BytesLeft count) refuses e = cc
-script_not_linked name old new WriteFailed refuses e = cc
 script_not_linked name old new LinksFailed refuses e = refuses
-script_not_linked name old new (ScriptRefused line) refuses e = cc
-script_not_linked name old new OutOfMemory refuses e = cc
+script_not_linked name old new _ refuses e = cc
 
 script_not_written : (name : List ℕ) (old new : StoreReport) (ending : Ending) → RefusesScript name old new ending
     → status_of ending ≡ SinkFault → ⊥
-script_not_written name old new Finished refuses e = cc
-script_not_written name old new (ConfigRefused refusal) refuses e = cc
-script_not_written name old new (Unread unread) refuses e = cc
-script_not_written name old new (OverLimit over limit) refuses e = cc
-script_not_written name old new (BytesLeft count) refuses e = cc
 script_not_written name old new WriteFailed refuses e = refuses
-script_not_written name old new LinksFailed refuses e = cc
-script_not_written name old new (ScriptRefused line) refuses e = cc
-script_not_written name old new OutOfMemory refuses e = cc
+script_not_written name old new _ refuses e = cc
 
 -- ---- the causes of faults
 
@@ -108,12 +84,7 @@ play_wrote : (setup : Setup) (script : Script) (old new : Reports) (ending : End
 play_wrote setup script old new WriteFailed ends e = ends.0
 play_wrote setup script old new Finished ends e = cc
 play_wrote setup script old new OutOfMemory ends e = cc
-play_wrote setup script old new (ConfigRefused refusal) ends e = absurd ends
-play_wrote setup script old new (Unread unread) ends e = absurd ends
-play_wrote setup script old new (OverLimit over limit) ends e = absurd ends
-play_wrote setup script old new (BytesLeft count) ends e = absurd ends
-play_wrote setup script old new LinksFailed ends e = absurd ends
-play_wrote setup script old new (ScriptRefused line) ends e = absurd ends
+play_wrote setup script old new _ ends e = absurd ends
 
 pub replay_read_rose : (config script : List ℕ) (old new : Reports) (Unasked : Type 0) (ending : Ending)
     → ReplayEnds config script old new Unasked ending
@@ -161,12 +132,7 @@ play_completes : (setup : Setup) (script : Script) (old new : Reports) (ending :
 play_completes setup script old new Finished ends still = tt
 play_completes setup script old new OutOfMemory ends still = tt
 play_completes setup script old new WriteFailed ends still = absurd (omega (arith, ends.0, still.0, still.1))
-play_completes setup script old new (ConfigRefused refusal) ends still = absurd ends
-play_completes setup script old new (Unread unread) ends still = absurd ends
-play_completes setup script old new (OverLimit over limit) ends still = absurd ends
-play_completes setup script old new (BytesLeft count) ends still = absurd ends
-play_completes setup script old new LinksFailed ends still = absurd ends
-play_completes setup script old new (ScriptRefused line) ends still = absurd ends
+play_completes setup script old new _ ends still = absurd ends
 
 pub replay_complete : (config script : List ℕ) (old new : Reports) (Unasked : Type 0) (text lines : List ℕ)
     (read : Config) (played : Script) (ending : Ending)

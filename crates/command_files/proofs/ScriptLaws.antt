@@ -32,31 +32,19 @@ is_script name old new bytes script is read = (bytes, is.0, (is.1, read))
 pub text_refused : (name bytes : List ℕ) (old new : StoreReport) (ending : Ending) → IsFile name old new bytes
     → RefusesText bytes ending
     → RefusesScript name old new ending
-text_refused name bytes old new Finished is refuses = absurd refuses
-text_refused name bytes old new (ConfigRefused refusal) is refuses = absurd refuses
-text_refused name bytes old new (Unread unread) is refuses = absurd refuses
-text_refused name bytes old new (OverLimit over limit) is refuses = absurd refuses
-text_refused name bytes old new (BytesLeft count) is refuses = absurd refuses
-text_refused name bytes old new WriteFailed is refuses = absurd refuses
-text_refused name bytes old new LinksFailed is refuses = absurd refuses
 text_refused name bytes old new (ScriptRefused line) is refuses =
     for_file name old new bytes (λ text. script_of text ≡ Err line) is refuses
 text_refused name bytes old new OutOfMemory is refuses = inr (bytes, is.0)
+text_refused name bytes old new _ is refuses = absurd refuses
 
 refused_read : (old new : Option (List StoreRead)) (name text : List ℕ) (ending : Ending) → RefusesText text ending
     → ReadMore (good_read name ∷ []) old new
     → OtherReads name old new ending
-refused_read old new name text Finished refuses grew = absurd refuses
-refused_read old new name text (ConfigRefused refusal) refuses grew = absurd refuses
-refused_read old new name text (Unread unread) refuses grew = absurd refuses
-refused_read old new name text (OverLimit over limit) refuses grew = absurd refuses
-refused_read old new name text (BytesLeft count) refuses grew = absurd refuses
-refused_read old new name text WriteFailed refuses grew = absurd refuses
-refused_read old new name text LinksFailed refuses grew = absurd refuses
 refused_read old new name text (ScriptRefused line) refuses grew =
     record { made = good_read name ∷ []; grew = grew; named = refl; counted = refl; failed = (refl, tt) }
 refused_read old new name text OutOfMemory refuses grew =
     record { made = good_read name ∷ []; grew = grew; named = refl; counted = tt; failed = (refl, tt) }
+refused_read old new name text _ refuses grew = absurd refuses
 
 -- the file was read, whatever its text says
 pub text_read : {T : Type 0} (old new : Option (List StoreRead)) (name text : List ℕ) (result : Result T Ending)
@@ -70,30 +58,19 @@ text_read old new name text (Err ending) refuses grew = refused_read old new nam
 pub script_rose : (name : List ℕ) (old new : StoreReport) (ending : Ending) → RefusesScript name old new ending
     → status_of ending ≡ ReadFault
     → Rose old.faults new.faults
-script_rose name old new Finished refuses e = cc
-script_rose name old new (ConfigRefused refusal) refuses e = cc
 script_rose name old new (Unread unread) refuses e = file_rose name old new (Unread unread) refuses e
-script_rose name old new (OverLimit over limit) refuses e = cc
-script_rose name old new (BytesLeft count) refuses e = cc
-script_rose name old new WriteFailed refuses e = cc
-script_rose name old new LinksFailed refuses e = cc
-script_rose name old new (ScriptRefused line) refuses e = cc
-script_rose name old new OutOfMemory refuses e = cc
+script_rose name old new _ refuses e = cc
 
 -- a script within its limit is refused only for lack of memory, where no fault is counted
 pub script_refused_for_memory : (name text : List ℕ) (script : Script) (old new : StoreReport) (ending : Ending)
     → IsHeld (old.held name) text
     → script_of text ≡ Ok script → length text ≤ FILE_LIMIT → IsStill old.faults new.faults
     → RefusesScript name old new ending → ending ≡ OutOfMemory
-script_refused_for_memory name text script old new Finished holds is fits still refuses = absurd refuses
-script_refused_for_memory name text script old new (ConfigRefused refusal) holds is fits still refuses = absurd refuses
 script_refused_for_memory name text script old new (Unread unread) holds is fits still refuses =
     file_refused_for_memory name text old new (Unread unread) holds fits still refuses
 script_refused_for_memory name text script old new (OverLimit over limit) holds is fits still refuses =
     file_refused_for_memory name text old new (OverLimit over limit) holds fits still refuses
-script_refused_for_memory name text script old new (BytesLeft count) holds is fits still refuses = absurd refuses
-script_refused_for_memory name text script old new WriteFailed holds is fits still refuses = absurd refuses
-script_refused_for_memory name text script old new LinksFailed holds is fits still refuses = absurd refuses
 script_refused_for_memory name text script old new (ScriptRefused line) holds is fits still refuses =
     let refused : script_of text ≡ Err line = (reported_of name old new text _ holds refuses).1 in cc
 script_refused_for_memory name text script old new OutOfMemory holds is fits still refuses = refl
+script_refused_for_memory name text script old new _ holds is fits still refuses = absurd refuses

@@ -33,25 +33,22 @@ pub file_fault_rose : (name : List ℕ) (shown : Bor (List ℕ)) (limit : ℕ) (
     → IsFileFault name limit old new fault
     → status_of (ending_of_file shown limit fault) ≡ ReadFault → Rose old.faults new.faults
 file_fault_rose name shown limit old new file.Unread cause e = cause.0
-file_fault_rose name shown limit old new file.TooLong cause e = cc
-file_fault_rose name shown limit old new file.Memory cause e = cc
+file_fault_rose name shown limit old new _ cause e = cc
 
 pub fetch_fault_rose : (name : List ℕ) (shown : Bor (List ℕ)) (old new : StoreReport) (fault : FetchFault)
     → IsFetchFault name old new fault
     → status_of (ending_of_fetch shown fault) ≡ ReadFault → Rose old.faults new.faults
 fetch_fault_rose name shown old new (fetch.Config (Refused place why)) cause e = cc
 fetch_fault_rose name shown old new (fetch.File file.Unread) cause e = cause.0
-fetch_fault_rose name shown old new (fetch.File file.TooLong) cause e = cc
-fetch_fault_rose name shown old new (fetch.File file.Memory) cause e = cc
+fetch_fault_rose name shown old new (fetch.File _) cause e = cc
 fetch_fault_rose name shown old new (fetch.Config Memory) cause e = cc
 
 pub fetch_fault_took : (name : List ℕ) (shown : Bor (List ℕ)) (old new : StoreReport) (fault : FetchFault)
     → IsFetchFault name old new fault
     → TookMore (ending_of_fetch shown fault) old.taken new.taken
 fetch_fault_took name shown old new (fetch.Config (Refused place why)) cause = tt
-fetch_fault_took name shown old new (fetch.File file.Unread) cause = tt
 fetch_fault_took name shown old new (fetch.File file.TooLong) cause = cause.1
-fetch_fault_took name shown old new (fetch.File file.Memory) cause = tt
+fetch_fault_took name shown old new (fetch.File _) cause = tt
 fetch_fault_took name shown old new (fetch.Config Memory) cause = tt
 
 -- ---- how a command does not end whose file was not read
@@ -59,14 +56,12 @@ fetch_fault_took name shown old new (fetch.Config Memory) cause = tt
 pub fetch_not_complete : (name : Bor (List ℕ)) (fault : FetchFault) → IsComplete (ending_of_fetch name fault) → ⊥
 fetch_not_complete name (fetch.Config (Refused place why)) complete = complete
 fetch_not_complete name (fetch.File file.Unread) complete = complete
-fetch_not_complete name (fetch.File file.TooLong) complete = complete
-fetch_not_complete name (fetch.File file.Memory) complete = complete
+fetch_not_complete name (fetch.File _) complete = complete
 fetch_not_complete name (fetch.Config Memory) complete = complete
 
 pub fetch_not_written : (name : Bor (List ℕ)) (fault : FetchFault) → status_of (ending_of_fetch name fault) ≡ SinkFault
     → ⊥
 fetch_not_written name (fetch.Config (Refused place why)) e = cc
 fetch_not_written name (fetch.File file.Unread) e = cc
-fetch_not_written name (fetch.File file.TooLong) e = cc
-fetch_not_written name (fetch.File file.Memory) e = cc
+fetch_not_written name (fetch.File _) e = cc
 fetch_not_written name (fetch.Config Memory) e = cc

@@ -50,15 +50,8 @@ last_failed_after name (read ∷ made) failed = (refl, failed)
 
 failed_after : (name : List ℕ) (ending : Ending) (made : List StoreRead) → HaveFailed ending made
     → HaveFailed ending (good_read name ∷ made)
-failed_after name Finished made failed = (refl, failed)
-failed_after name (ConfigRefused refusal) made failed = (refl, failed)
 failed_after name (Unread unread) made failed = last_failed_after name made failed
-failed_after name (OverLimit over limit) made failed = (refl, failed)
-failed_after name (BytesLeft count) made failed = (refl, failed)
-failed_after name WriteFailed made failed = (refl, failed)
-failed_after name LinksFailed made failed = (refl, failed)
-failed_after name (ScriptRefused line) made failed = (refl, failed)
-failed_after name OutOfMemory made failed = (refl, failed)
+failed_after name _ made failed = (refl, failed)
 
 -- the first file was read, and then the other one
 pub reads_both : (C D : ℕ → Type 0) (old mid new : Option (List StoreRead)) (name other : List ℕ) (ending : Ending)

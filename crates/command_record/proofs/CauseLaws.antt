@@ -77,10 +77,8 @@ quiet_causes links out disk disk' ending still linked written stored =
 
 pub fault_causes : (T : Type 0) (links out disk disk' : ℕ) (why : JournalFault)
     → HasFaultCause {T = T} disk disk' (Err why) → HasCauses links links out out disk disk' (ending_of_fault why)
-fault_causes T links out disk disk' (fault.Refused place) cause =
-    quiet_causes links out disk disk' _ cause (λ is. cc) (λ is. cc) (λ is. cc)
 fault_causes T links out disk disk' fault.DiskFault cause = disk_causes links out disk disk' cause.risen
-fault_causes T links out disk disk' fault.Memory cause =
+fault_causes T links out disk disk' _ cause =
     quiet_causes links out disk disk' _ cause (λ is. cc) (λ is. cc) (λ is. cc)
 
 -- what failed since the disk had this count failed since it had an equal one

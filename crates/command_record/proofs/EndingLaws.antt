@@ -36,36 +36,28 @@ not_usage _ e = cc
 
 pub fault_not_read : (why : JournalFault) → status_of (ending_of_fault why) ≢ ReadFault
 fault_not_read (fault.Refused place) e = cc
-fault_not_read fault.DiskFault e = cc
-fault_not_read fault.Memory e = cc
+fault_not_read _ e = cc
 
 pub fault_configured : (why : JournalFault) → HasNoConfig (ending_of_fault why) → ⊥
 fault_configured (fault.Refused place) none = none
-fault_configured fault.DiskFault none = none
-fault_configured fault.Memory none = none
+fault_configured _ none = none
 
 -- ---- a run
 
 pub run_not_read : (ran : Result Hub JournalRunFault) → status_of (ending_of_run ran) ≢ ReadFault
 run_not_read (Ok hub) e = cc
 run_not_read (Err run.Disk) e = cc
-run_not_read (Err run.Links) e = cc
-run_not_read (Err run.Sink) e = cc
-run_not_read (Err run.Memory) e = cc
+run_not_read (Err _) e = cc
 
 pub run_configured : (ran : Result Hub JournalRunFault) → HasNoConfig (ending_of_run ran) → ⊥
 run_configured (Ok hub) none = none
 run_configured (Err run.Disk) none = none
-run_configured (Err run.Links) none = none
-run_configured (Err run.Sink) none = none
-run_configured (Err run.Memory) none = none
+run_configured (Err _) none = none
 
 pub run_not_refused : (ran : Result Hub JournalRunFault) → IsRefusal (status_of (ending_of_run ran)) → ⊥
 run_not_refused (Ok hub) refused = refused
 run_not_refused (Err run.Disk) refused = refused
-run_not_refused (Err run.Links) refused = refused
-run_not_refused (Err run.Sink) refused = refused
-run_not_refused (Err run.Memory) refused = refused
+run_not_refused (Err _) refused = refused
 
 pub run_of_links : (ran : Result Hub JournalRunFault) → ending_of_run ran ≡ Shared LinksFailed → ran ≡ Err run.Links
 run_of_links (Err run.Links) e = refl

@@ -47,9 +47,8 @@ nothing_added (Some names) = ap Some (append-nil names)
 opens_for : {T : Type 0} (name : List ℕ) (old mid new : DiskReport) (result : Result T JournalFault)
     → Opens name old mid → new.opened ≡ mid.opened → OpensFor name old new result
 opens_for name old mid new (Ok value) opens same = same ∙ opens
-opens_for name old mid new (Err (Refused place)) opens same = same ∙ opens
-opens_for name old mid new (Err DiskFault) opens same = same ∙ opens
 opens_for name old mid new (Err Memory) opens same = inr (same ∙ opens)
+opens_for name old mid new (Err _) opens same = same ∙ opens
 
 -- it was not opened
 opening_fails : (T : Type 0) (name : List ℕ) (old new : DiskReport) (why : DiskError)
@@ -180,9 +179,8 @@ read_resumes old found bytes (Err fault) is_loaded same read = tt
 read_whole : (file : List ℕ) (journal : Journal) (answer : Result Loaded JournalFault) → IsReadOrMemory journal answer
     → IfErr answer (IsWhyRefused file)
 read_whole file journal (Ok loaded) read = tt
-read_whole file journal (Err (Refused place)) read = absurd read
-read_whole file journal (Err DiskFault) read = absurd read
 read_whole file journal (Err Memory) read = tt
+read_whole file journal (Err _) read = absurd read
 
 -- it is not refused
 pub read_unrefused : (old : Option Past) (found : Found) (bytes : List ℕ) (answer : Result Loaded JournalFault)
@@ -198,9 +196,8 @@ read_unrefused old found bytes (Err fault) is_loaded read = λ past told.
 pub read_cause : {T : Type 0} (old new : ℕ) (answer : Result T JournalFault) → new ≡ old → answer ≢ Err DiskFault
     → HasFaultCause old new answer
 read_cause old new (Ok loaded) same quiet = same
-read_cause old new (Err (Refused place)) same quiet = same
 read_cause old new (Err DiskFault) same quiet = absurd (quiet refl)
-read_cause old new (Err Memory) same quiet = same
+read_cause old new (Err _) same quiet = same
 
 -- a fact of its end
 pub of_end : (P : Found → Type 0) (found : Found) (answer : Result Loaded JournalFault)

@@ -41,20 +41,10 @@ use Rattle.command_record.proofs.CauseLaws.{AreStill, fault_complete, run_comple
 pub recorded_reads : (name : List ℕ) (old new : Option (List StoreRead)) (ending : JournalEnding)
     → status_of ending ≢ ReadFault → ReadMore (good_read name ∷ []) old new
     → ReadsConfig name old new ending
-recorded_reads name old new (Shared Finished) not_read grew = read_alone _ old new name _ grew refl (refl, tt)
-recorded_reads name old new (Shared (ConfigRefused refusal)) not_read grew =
-    read_alone _ old new name _ grew refl (refl, tt)
 recorded_reads name old new (Shared (Unread unread)) not_read grew = absurd (not_read refl)
-recorded_reads name old new (Shared (OverLimit over limit)) not_read grew =
-    read_alone _ old new name _ grew refl (refl, tt)
-recorded_reads name old new (Shared (BytesLeft count)) not_read grew = read_alone _ old new name _ grew refl (refl, tt)
-recorded_reads name old new (Shared WriteFailed) not_read grew = read_alone _ old new name _ grew refl (refl, tt)
-recorded_reads name old new (Shared LinksFailed) not_read grew = read_alone _ old new name _ grew refl (refl, tt)
-recorded_reads name old new (Shared (ScriptRefused line)) not_read grew =
-    read_alone _ old new name _ grew refl (refl, tt)
 recorded_reads name old new (Shared OutOfMemory) not_read grew = read_alone _ old new name _ grew tt (refl, tt)
-recorded_reads name old new (Refused place) not_read grew = grew
-recorded_reads name old new DiskFailed not_read grew = grew
+recorded_reads name old new (Shared _) not_read grew = read_alone _ old new name _ grew refl (refl, tt)
+recorded_reads name old new _ not_read grew = grew
 
 -- a command without a configuration took no turn
 pub refused_not_complete : (name : List ℕ) (store store' : StoreReport) (patterns patterns' : PatternsReport)

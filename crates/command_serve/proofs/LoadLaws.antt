@@ -31,14 +31,9 @@ AfterRun out out' _ = ⊥
 written_after : (summary : Summary) (out out' : SinkReport) (ending : Ending) → WritesSummary summary out out' ending
     → AfterRun out out' ending
 written_after summary out out' Finished writes = writes.1
-written_after summary out out' (ConfigRefused refusal) writes = writes
-written_after summary out out' (Unread unread) writes = writes
-written_after summary out out' (OverLimit over limit) writes = writes
-written_after summary out out' (BytesLeft count) writes = writes
 written_after summary out out' WriteFailed writes = writes.1
-written_after summary out out' LinksFailed writes = writes
-written_after summary out out' (ScriptRefused line) writes = writes
 written_after summary out out' OutOfMemory writes = tt
+written_after summary out out' _ writes = writes
 
 pub ends_after_run : (setup : Setup) (count start : ℕ) (patterns patterns' : PatternsReport) (forks forks' : ℕ)
     (out out' : SinkReport) (ending : Ending)
@@ -51,50 +46,30 @@ ends_after_run setup count start patterns patterns' forks forks' out out' ending
 not_read_after_run : (out out' : SinkReport) (ending : Ending) → AfterRun out out' ending → status_of ending ≡ ReadFault
     → ⊥
 not_read_after_run out out' Finished after e = cc
-not_read_after_run out out' (ConfigRefused refusal) after e = after
-not_read_after_run out out' (Unread unread) after e = after
-not_read_after_run out out' (OverLimit over limit) after e = after
-not_read_after_run out out' (BytesLeft count) after e = after
 not_read_after_run out out' WriteFailed after e = cc
-not_read_after_run out out' LinksFailed after e = after
-not_read_after_run out out' (ScriptRefused line) after e = after
 not_read_after_run out out' OutOfMemory after e = cc
+not_read_after_run out out' _ after e = after
 
 not_linked_after_run : (out out' : SinkReport) (ending : Ending) → AfterRun out out' ending
     → status_of ending ≡ LinkFault → ⊥
 not_linked_after_run out out' Finished after e = cc
-not_linked_after_run out out' (ConfigRefused refusal) after e = after
-not_linked_after_run out out' (Unread unread) after e = after
-not_linked_after_run out out' (OverLimit over limit) after e = after
-not_linked_after_run out out' (BytesLeft count) after e = after
 not_linked_after_run out out' WriteFailed after e = cc
-not_linked_after_run out out' LinksFailed after e = after
-not_linked_after_run out out' (ScriptRefused line) after e = after
 not_linked_after_run out out' OutOfMemory after e = cc
+not_linked_after_run out out' _ after e = after
 
 rose_after_run : (out out' : SinkReport) (ending : Ending) → AfterRun out out' ending → status_of ending ≡ SinkFault
     → Rose out.faults out'.faults
 rose_after_run out out' Finished after e = cc
-rose_after_run out out' (ConfigRefused refusal) after e = absurd after
-rose_after_run out out' (Unread unread) after e = absurd after
-rose_after_run out out' (OverLimit over limit) after e = absurd after
-rose_after_run out out' (BytesLeft count) after e = absurd after
 rose_after_run out out' WriteFailed after e = after
-rose_after_run out out' LinksFailed after e = absurd after
-rose_after_run out out' (ScriptRefused line) after e = absurd after
 rose_after_run out out' OutOfMemory after e = cc
+rose_after_run out out' _ after e = absurd after
 
 done_after_run : (out out' : SinkReport) (ending : Ending) → AfterRun out out' ending → IsStill out.faults out'.faults
     → IsDoneOrMemory (status_of ending)
 done_after_run out out' Finished after still = tt
-done_after_run out out' (ConfigRefused refusal) after still = absurd after
-done_after_run out out' (Unread unread) after still = absurd after
-done_after_run out out' (OverLimit over limit) after still = absurd after
-done_after_run out out' (BytesLeft count) after still = absurd after
 done_after_run out out' WriteFailed after still = omega (arith, after, still.0, still.1)
-done_after_run out out' LinksFailed after still = absurd after
-done_after_run out out' (ScriptRefused line) after still = absurd after
 done_after_run out out' OutOfMemory after still = tt
+done_after_run out out' _ after still = absurd after
 
 -- ---- the command
 

@@ -51,42 +51,21 @@ run_has_config (Err fault) refused = cut_has_config fault refused
 pub serve_read_rose : (config : List ℕ) (turns : ℕ) (old new : Reporting) (ending : Ending)
     → ServeEnds config turns old new ending
     → status_of ending ≡ ReadFault → Rose old.store.faults new.store.faults
-serve_read_rose config turns old new Finished ends e = cc
-serve_read_rose config turns old new (ConfigRefused refusal) ends e = cc
 serve_read_rose config turns old new (Unread unread) ends e =
     refused_rose config old.store new.store old.patterns new.patterns (Unread unread) ends.0 e
-serve_read_rose config turns old new (OverLimit over limit) ends e = cc
-serve_read_rose config turns old new (BytesLeft count) ends e = cc
-serve_read_rose config turns old new WriteFailed ends e = cc
-serve_read_rose config turns old new LinksFailed ends e = cc
-serve_read_rose config turns old new (ScriptRefused line) ends e = cc
-serve_read_rose config turns old new OutOfMemory ends e = cc
+serve_read_rose config turns old new _ ends e = cc
 
 pub serve_sink_rose : (config : List ℕ) (turns : ℕ) (old new : Reporting) (ending : Ending)
     → ServeEnds config turns old new ending
     → status_of ending ≡ SinkFault → Rose old.out.faults new.out.faults
-serve_sink_rose config turns old new Finished ends e = cc
-serve_sink_rose config turns old new (ConfigRefused refusal) ends e = cc
-serve_sink_rose config turns old new (Unread unread) ends e = cc
-serve_sink_rose config turns old new (OverLimit over limit) ends e = cc
-serve_sink_rose config turns old new (BytesLeft count) ends e = cc
 serve_sink_rose config turns old new WriteFailed ends e = ends.3
-serve_sink_rose config turns old new LinksFailed ends e = cc
-serve_sink_rose config turns old new (ScriptRefused line) ends e = cc
-serve_sink_rose config turns old new OutOfMemory ends e = cc
+serve_sink_rose config turns old new _ ends e = cc
 
 pub serve_links_rose : (config : List ℕ) (turns : ℕ) (old new : Reporting) (ending : Ending)
     → ServeEnds config turns old new ending
     → status_of ending ≡ LinkFault → Rose old.links.faults new.links.faults
-serve_links_rose config turns old new Finished ends e = cc
-serve_links_rose config turns old new (ConfigRefused refusal) ends e = cc
-serve_links_rose config turns old new (Unread unread) ends e = cc
-serve_links_rose config turns old new (OverLimit over limit) ends e = cc
-serve_links_rose config turns old new (BytesLeft count) ends e = cc
-serve_links_rose config turns old new WriteFailed ends e = cc
 serve_links_rose config turns old new LinksFailed ends e = ends.3
-serve_links_rose config turns old new (ScriptRefused line) ends e = cc
-serve_links_rose config turns old new OutOfMemory ends e = cc
+serve_links_rose config turns old new _ ends e = cc
 
 -- ---- completeness
 
@@ -109,27 +88,12 @@ pub serve_complete : (config : List ℕ) (turns : ℕ) (text : List ℕ) (read :
     → ServeEnds config turns old new ending
     → IsDoneOrMemory (status_of ending)
 serve_complete config turns text read old new Finished holds is fits reads_still links_still out_still still ends = tt
-serve_complete config turns text read old new (ConfigRefused refusal) holds is fits reads_still links_still out_still
-    still ends =
-    let e = not_refused config text read old new (ConfigRefused refusal) holds is fits reads_still still ends.0 in
-    absurd cc
-serve_complete config turns text read old new (Unread unread) holds is fits reads_still links_still out_still still
-    ends =
-    let e = not_refused config text read old new (Unread unread) holds is fits reads_still still ends.0 in absurd cc
-serve_complete config turns text read old new (OverLimit over limit) holds is fits reads_still links_still out_still
-    still ends =
-    let e = not_refused config text read old new (OverLimit over limit) holds is fits reads_still still ends.0 in
-    absurd cc
-serve_complete config turns text read old new (BytesLeft count) holds is fits reads_still links_still out_still still
-    ends =
-    let e = not_refused config text read old new (BytesLeft count) holds is fits reads_still still ends.0 in absurd cc
 serve_complete config turns text read old new WriteFailed holds is fits reads_still links_still out_still still ends =
     omega (arith, ends.3, out_still.0, out_still.1)
 serve_complete config turns text read old new LinksFailed holds is fits reads_still links_still out_still still ends =
     omega (arith, ends.3, links_still.0, links_still.1)
-serve_complete config turns text read old new (ScriptRefused line) holds is fits reads_still links_still out_still still
-    ends =
-    let e = not_refused config text read old new (ScriptRefused line) holds is fits reads_still still ends.0 in
-    absurd cc
 serve_complete config turns text read old new OutOfMemory holds is fits reads_still links_still out_still still ends =
     tt
+serve_complete config turns text read old new ending holds is fits reads_still links_still out_still still ends =
+    let e = not_refused config text read old new ending holds is fits reads_still still ends.0 in
+    absurd cc

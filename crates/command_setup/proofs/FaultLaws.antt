@@ -6,10 +6,8 @@ use Rattle.hub_run.specs.declared.fault.RunFault.TheVariants.{Links, Sink, Memor
 
 pub cut_not_complete : (fault : RunFault) → IsComplete (ending_of_fault fault) → ⊥
 cut_not_complete Links complete = complete
-cut_not_complete Sink complete = complete
-cut_not_complete Memory complete = complete
+cut_not_complete _ complete = complete
 
 pub cut_has_config : (fault : RunFault) → HasNoConfig (ending_of_fault fault) → ⊥
 cut_has_config Links refused = refused
-cut_has_config Sink refused = refused
-cut_has_config Memory refused = refused
+cut_has_config _ refused = refused

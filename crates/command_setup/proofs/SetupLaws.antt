@@ -39,55 +39,28 @@ pub refused_not_complete : (name : List ℕ) (store store' : StoreReport) (patte
     (ending : Ending)
     → RefusesSetup name store store' patterns patterns' ending → IsComplete ending → ⊥
 refused_not_complete name store store' patterns patterns' Finished refuses complete = refuses
-refused_not_complete name store store' patterns patterns' (ConfigRefused refusal) refuses complete = complete
-refused_not_complete name store store' patterns patterns' (Unread unread) refuses complete = complete
-refused_not_complete name store store' patterns patterns' (OverLimit over limit) refuses complete = complete
 refused_not_complete name store store' patterns patterns' (BytesLeft count) refuses complete = refuses
-refused_not_complete name store store' patterns patterns' WriteFailed refuses complete = complete
-refused_not_complete name store store' patterns patterns' LinksFailed refuses complete = complete
-refused_not_complete name store store' patterns patterns' (ScriptRefused line) refuses complete = complete
-refused_not_complete name store store' patterns patterns' OutOfMemory refuses complete = complete
+refused_not_complete name store store' patterns patterns' _ refuses complete = complete
 
 pub refused_not_written : (name : List ℕ) (store store' : StoreReport) (patterns patterns' : PatternsReport)
     (ending : Ending)
     → RefusesSetup name store store' patterns patterns' ending → status_of ending ≡ SinkFault → ⊥
-refused_not_written name store store' patterns patterns' Finished refuses e = cc
-refused_not_written name store store' patterns patterns' (ConfigRefused refusal) refuses e = cc
-refused_not_written name store store' patterns patterns' (Unread unread) refuses e = cc
-refused_not_written name store store' patterns patterns' (OverLimit over limit) refuses e = cc
-refused_not_written name store store' patterns patterns' (BytesLeft count) refuses e = cc
 refused_not_written name store store' patterns patterns' WriteFailed refuses e = refuses
-refused_not_written name store store' patterns patterns' LinksFailed refuses e = cc
-refused_not_written name store store' patterns patterns' (ScriptRefused line) refuses e = cc
-refused_not_written name store store' patterns patterns' OutOfMemory refuses e = cc
+refused_not_written name store store' patterns patterns' _ refuses e = cc
 
 pub refused_not_linked : (name : List ℕ) (store store' : StoreReport) (patterns patterns' : PatternsReport)
     (ending : Ending)
     → RefusesSetup name store store' patterns patterns' ending → status_of ending ≡ LinkFault → ⊥
-refused_not_linked name store store' patterns patterns' Finished refuses e = cc
-refused_not_linked name store store' patterns patterns' (ConfigRefused refusal) refuses e = cc
-refused_not_linked name store store' patterns patterns' (Unread unread) refuses e = cc
-refused_not_linked name store store' patterns patterns' (OverLimit over limit) refuses e = cc
-refused_not_linked name store store' patterns patterns' (BytesLeft count) refuses e = cc
-refused_not_linked name store store' patterns patterns' WriteFailed refuses e = cc
 refused_not_linked name store store' patterns patterns' LinksFailed refuses e = refuses
-refused_not_linked name store store' patterns patterns' (ScriptRefused line) refuses e = cc
-refused_not_linked name store store' patterns patterns' OutOfMemory refuses e = cc
+refused_not_linked name store store' patterns patterns' _ refuses e = cc
 
 -- ---- the causes of the others
 
 pub refused_rose : (name : List ℕ) (store store' : StoreReport) (patterns patterns' : PatternsReport) (ending : Ending)
     → RefusesSetup name store store' patterns patterns' ending → status_of ending ≡ ReadFault
     → Rose store.faults store'.faults
-refused_rose name store store' patterns patterns' Finished refuses e = cc
-refused_rose name store store' patterns patterns' (ConfigRefused refusal) refuses e = cc
 refused_rose name store store' patterns patterns' (Unread unread) refuses e = refuses.0
-refused_rose name store store' patterns patterns' (OverLimit over limit) refuses e = cc
-refused_rose name store store' patterns patterns' (BytesLeft count) refuses e = cc
-refused_rose name store store' patterns patterns' WriteFailed refuses e = cc
-refused_rose name store store' patterns patterns' LinksFailed refuses e = cc
-refused_rose name store store' patterns patterns' (ScriptRefused line) refuses e = cc
-refused_rose name store store' patterns patterns' OutOfMemory refuses e = cc
+refused_rose name store store' patterns patterns' _ refuses e = cc
 
 -- a configuration within its limit is refused only for lack of memory, where no fault and no refusal is counted
 pub refused_for_memory : (name text : List ℕ) (read : Config) (store store' : StoreReport)
@@ -96,8 +69,6 @@ pub refused_for_memory : (name text : List ℕ) (read : Config) (store store' : 
     → IsStill store.faults store'.faults
     → IsStill patterns.refusals patterns'.refusals → RefusesSetup name store store' patterns patterns' ending
     → ending ≡ OutOfMemory
-refused_for_memory name text read store store' patterns patterns' Finished holds is fits reads_still still refuses =
-    absurd refuses
 refused_for_memory name text read store store' patterns patterns' (ConfigRefused refusal) holds is fits reads_still
     still refuses =
     absurd (config_not_refused name store store' text read refusal patterns patterns' holds is still refuses)
@@ -107,15 +78,7 @@ refused_for_memory name text read store store' patterns patterns' (Unread unread
 refused_for_memory name text read store store' patterns patterns' (OverLimit over limit) holds is fits reads_still still
     refuses =
     absurd (not_over (store.held name) text CONFIG_LIMIT holds fits refuses.0)
-refused_for_memory name text read store store' patterns patterns' (BytesLeft count) holds is fits reads_still still
-    refuses =
-    absurd refuses
-refused_for_memory name text read store store' patterns patterns' WriteFailed holds is fits reads_still still refuses =
-    absurd refuses
-refused_for_memory name text read store store' patterns patterns' LinksFailed holds is fits reads_still still refuses =
-    absurd refuses
-refused_for_memory name text read store store' patterns patterns' (ScriptRefused line) holds is fits reads_still still
-    refuses =
-    absurd refuses
 refused_for_memory name text read store store' patterns patterns' OutOfMemory holds is fits reads_still still refuses =
     refl
+refused_for_memory name text read store store' patterns patterns' _ holds is fits reads_still still refuses =
+    absurd refuses

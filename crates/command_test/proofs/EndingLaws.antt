@@ -11,8 +11,7 @@ use Rattle.command_test.specs.declared.ending.TestsEnding.TheVariants.{Shared, D
 without_disk : ((ending : Ending) → shared.status_of ending ≡ DiskFault → ⊥) → (ending : TestsEnding)
     → status_of ending ≡ DiskFault → ⊥
 without_disk others (Shared ending) e = others ending e
-without_disk others Differed e = cc
-without_disk others (TestsRefused place why) e = cc
+without_disk others _ e = cc
 
 -- no call of a disk failed, since none is made
 pub not_of_disk : ((ending : Ending) → shared.status_of ending ≡ DiskFault → ⊥)

@@ -159,8 +159,7 @@ ends_differed config tests old new shown = (shown.judges, shown.passed, shown.no
 pub ends_stopped : (config : Config) (tests : List Test) (stop : Stop) (old new : RunReport)
     → StopsRun config tests stop old new → RunEnds config tests old new (Shared (ending_of stop))
 ends_stopped config tests (Pattern number) old new stops = stops
-ends_stopped config tests Write old new stops = stops
-ends_stopped config tests Memory old new stops = stops
+ends_stopped config tests _ old new stops = stops
 
 -- ---- the patterns of a test that was run, or was not
 

@@ -46,8 +46,7 @@ pub check_writes_fault : (name : List ℕ) (shown : Bor (List ℕ)) (store store
     → CheckWrites name store store' patterns patterns out out (ending_of_fetch shown fault)
 check_writes_fault name shown store store' patterns out (fetch.Config (Refused place why)) cause = ((cause, refl), refl)
 check_writes_fault name shown store store' patterns out (fetch.File file.Unread) cause = (refl, refl)
-check_writes_fault name shown store store' patterns out (fetch.File file.TooLong) cause = (refl, refl)
-check_writes_fault name shown store store' patterns out (fetch.File file.Memory) cause = (refl, refl)
+check_writes_fault name shown store store' patterns out (fetch.File _) cause = (refl, refl)
 check_writes_fault name shown store store' patterns out (fetch.Config Memory) cause = (refl, refl)
 
 -- ---- once it has its configuration
@@ -57,26 +56,15 @@ pub check_cause : (name : List ℕ) (store store' : StoreReport) (config : Confi
     → EndsCheck config patterns patterns' out out' ending → CheckCause name store store' ending
 check_cause name store store' config patterns patterns' out out' Finished given ends = tt
 check_cause name store store' config patterns patterns' out out' (ConfigRefused refusal) given ends = tt
-check_cause name store store' config patterns patterns' out out' (Unread unread) given ends = absurd ends
-check_cause name store store' config patterns patterns' out out' (OverLimit over limit) given ends = absurd ends
-check_cause name store store' config patterns patterns' out out' (BytesLeft count) given ends = absurd ends
-check_cause name store store' config patterns patterns' out out' LinksFailed given ends = absurd ends
-check_cause name store store' config patterns patterns' out out' (ScriptRefused line) given ends = absurd ends
 check_cause name store store' config patterns patterns' out out' WriteFailed given ends = tt
 check_cause name store store' config patterns patterns' out out' OutOfMemory given ends = inr (given.0, given.1)
+check_cause name store store' config patterns patterns' out out' _ given ends = absurd ends
 
 pub check_took : (config : Config) (patterns patterns' : PatternsReport) (out out' : SinkReport) (ending : Ending)
     (taken taken' : ℕ)
     → EndsCheck config patterns patterns' out out' ending → TookMore ending taken taken'
-check_took config patterns patterns' out out' Finished taken taken' ends = tt
-check_took config patterns patterns' out out' (ConfigRefused refusal) taken taken' ends = tt
-check_took config patterns patterns' out out' (Unread unread) taken taken' ends = tt
 check_took config patterns patterns' out out' (OverLimit over limit) taken taken' ends = absurd ends
-check_took config patterns patterns' out out' (BytesLeft count) taken taken' ends = tt
-check_took config patterns patterns' out out' LinksFailed taken taken' ends = tt
-check_took config patterns patterns' out out' (ScriptRefused line) taken taken' ends = tt
-check_took config patterns patterns' out out' WriteFailed taken taken' ends = tt
-check_took config patterns patterns' out out' OutOfMemory taken taken' ends = tt
+check_took config patterns patterns' out out' _ taken taken' ends = tt
 
 config_refuses : (name : List ℕ) (store store' : StoreReport) (config : Config) (refusal : ConfigRefusal) (patterns patterns' : PatternsReport)
     (out out' : SinkReport)
@@ -98,60 +86,32 @@ check_writes name store store' config patterns patterns' out out' WriteFailed gi
 check_writes name store store' config patterns patterns' out out' (ConfigRefused refusal) given ends =
     config_refuses name store store' config refusal patterns patterns' out out' given ends
 check_writes name store store' config patterns patterns' out out' OutOfMemory given ends = ends
-check_writes name store store' config patterns patterns' out out' (Unread unread) given ends = absurd ends
-check_writes name store store' config patterns patterns' out out' (OverLimit over limit) given ends = absurd ends
-check_writes name store store' config patterns patterns' out out' (BytesLeft count) given ends = absurd ends
-check_writes name store store' config patterns patterns' out out' LinksFailed given ends = absurd ends
-check_writes name store store' config patterns patterns' out out' (ScriptRefused line) given ends = absurd ends
+check_writes name store store' config patterns patterns' out out' _ given ends = absurd ends
 
 pub check_quiet : (config : Config) (patterns patterns' : PatternsReport) (out out' : SinkReport) (ending : Ending)
     → EndsCheck config patterns patterns' out out' ending → IsComplete ending → out'.faults ≡ out.faults
 check_quiet config patterns patterns' out out' Finished ends complete = ends.2
-check_quiet config patterns patterns' out out' (ConfigRefused refusal) ends complete = absurd complete
-check_quiet config patterns patterns' out out' (Unread unread) ends complete = absurd complete
-check_quiet config patterns patterns' out out' (OverLimit over limit) ends complete = absurd complete
 check_quiet config patterns patterns' out out' (BytesLeft count) ends complete = absurd ends
 check_quiet config patterns patterns' out out' LinksFailed ends complete = absurd ends
 check_quiet config patterns patterns' out out' (ScriptRefused line) ends complete = absurd ends
-check_quiet config patterns patterns' out out' WriteFailed ends complete = absurd complete
-check_quiet config patterns patterns' out out' OutOfMemory ends complete = absurd complete
+check_quiet config patterns patterns' out out' _ ends complete = absurd complete
 
 pub check_not_read : (config : Config) (patterns patterns' : PatternsReport) (out out' : SinkReport) (ending : Ending)
     → EndsCheck config patterns patterns' out out' ending → status_of ending ≡ ReadFault → ⊥
-check_not_read config patterns patterns' out out' Finished ends e = cc
-check_not_read config patterns patterns' out out' (ConfigRefused refusal) ends e = cc
 check_not_read config patterns patterns' out out' (Unread unread) ends e = ends
-check_not_read config patterns patterns' out out' (OverLimit over limit) ends e = cc
-check_not_read config patterns patterns' out out' (BytesLeft count) ends e = cc
-check_not_read config patterns patterns' out out' LinksFailed ends e = cc
-check_not_read config patterns patterns' out out' (ScriptRefused line) ends e = cc
-check_not_read config patterns patterns' out out' WriteFailed ends e = cc
-check_not_read config patterns patterns' out out' OutOfMemory ends e = cc
+check_not_read config patterns patterns' out out' _ ends e = cc
 
 pub check_rose : (config : Config) (patterns patterns' : PatternsReport) (out out' : SinkReport) (ending : Ending)
     → EndsCheck config patterns patterns' out out' ending → status_of ending ≡ SinkFault → Rose out.faults out'.faults
-check_rose config patterns patterns' out out' Finished ends e = cc
-check_rose config patterns patterns' out out' (ConfigRefused refusal) ends e = cc
 check_rose config patterns patterns' out out' (Unread unread) ends e = absurd ends
-check_rose config patterns patterns' out out' (OverLimit over limit) ends e = cc
-check_rose config patterns patterns' out out' (BytesLeft count) ends e = cc
-check_rose config patterns patterns' out out' LinksFailed ends e = cc
-check_rose config patterns patterns' out out' (ScriptRefused line) ends e = cc
 check_rose config patterns patterns' out out' WriteFailed ends e = ends.2
-check_rose config patterns patterns' out out' OutOfMemory ends e = cc
+check_rose config patterns patterns' out out' _ ends e = cc
 
 -- it calls no link that could fail
 pub links_not_called : (name : List ℕ) (store store' : StoreReport) (ending : Ending) → CheckCause name store store' ending
     → status_of ending ≡ LinkFault → ⊥
-links_not_called name store store' Finished cause e = cc
-links_not_called name store store' (ConfigRefused refusal) cause e = cc
-links_not_called name store store' (Unread unread) cause e = cc
-links_not_called name store store' (OverLimit over limit) cause e = cc
-links_not_called name store store' (BytesLeft count) cause e = cc
-links_not_called name store store' WriteFailed cause e = cc
 links_not_called name store store' LinksFailed cause e = cause
-links_not_called name store store' (ScriptRefused line) cause e = cc
-links_not_called name store store' OutOfMemory cause e = cc
+links_not_called name store store' _ cause e = cc
 
 -- ---- completeness
 
@@ -180,14 +140,7 @@ check_complete name store store' text read patterns patterns' out out' reads rea
 check_complete name store store' text read patterns patterns' out out' reads reads' (OverLimit over limit) holds is fits
     cause writes read_rose put_rose reads_still puts_still still =
     not_over (store.held name) text CONFIG_LIMIT holds fits cause.0
-check_complete name store store' text read patterns patterns' out out' reads reads' (BytesLeft count) holds is fits cause
-    writes read_rose put_rose reads_still puts_still still =
-    cause
-check_complete name store store' text read patterns patterns' out out' reads reads' LinksFailed holds is fits cause writes
-    read_rose put_rose reads_still puts_still still =
-    cause
-check_complete name store store' text read patterns patterns' out out' reads reads' (ScriptRefused line) holds is fits cause
-    writes read_rose put_rose reads_still puts_still still =
+check_complete name store store' text read patterns patterns' out out' reads reads' _ holds is fits cause writes read_rose put_rose reads_still puts_still still =
     cause
 
 -- ---- what it read
@@ -196,16 +149,12 @@ pub check_reads : (old new : Option (List StoreRead)) (name : List ℕ) (config 
     (patterns patterns' : PatternsReport) (out out' : SinkReport) (ending : Ending)
     → EndsCheck config patterns patterns' out out' ending → ReadMore (good_read name ∷ []) old new
     → ReadsFiles (name ∷ []) (IsReadOnce ending) old new ending
-check_reads old new name config patterns patterns' out out' Finished ends grew =
-    read_alone _ old new name _ grew refl (refl, tt)
-check_reads old new name config patterns patterns' out out' (ConfigRefused refusal) ends grew =
-    read_alone _ old new name _ grew refl (refl, tt)
 check_reads old new name config patterns patterns' out out' (Unread unread) ends grew = absurd ends
 check_reads old new name config patterns patterns' out out' (OverLimit over limit) ends grew = absurd ends
 check_reads old new name config patterns patterns' out out' (BytesLeft count) ends grew = absurd ends
 check_reads old new name config patterns patterns' out out' LinksFailed ends grew = absurd ends
 check_reads old new name config patterns patterns' out out' (ScriptRefused line) ends grew = absurd ends
-check_reads old new name config patterns patterns' out out' WriteFailed ends grew =
-    read_alone _ old new name _ grew refl (refl, tt)
 check_reads old new name config patterns patterns' out out' OutOfMemory ends grew =
     read_alone _ old new name _ grew tt (refl, tt)
+check_reads old new name config patterns patterns' out out' _ ends grew =
+    read_alone _ old new name _ grew refl (refl, tt)

@@ -74,20 +74,8 @@ text_ends law host_part text frames lines out out' err err' SinkFault f l (inr w
       record { all = rw f at w.1; read_back = law host_part text },
       rw l at w.2,
     )
-text_ends law host_part text frames lines out out' err err' Usage f l w = w
-text_ends law host_part text frames lines out out' err err' Config f l w = w
-text_ends law host_part text frames lines out out' err err' ReadFault f l w = w
-text_ends law host_part text frames lines out out' err err' LinkFault f l w = w
 text_ends law host_part text frames lines out out' err err' Memory f l w = absurd w
-text_ends law host_part text frames lines out out' err err' Script f l w = w
-text_ends law host_part text frames lines out out' err err' Truncated f l w = w
-text_ends law host_part text frames lines out out' err err' TooLong f l w = w
-text_ends law host_part text frames lines out out' err err' Tests f l w = w
-text_ends law host_part text frames lines out out' err err' Verdict f l w = w
-text_ends law host_part text frames lines out out' err err' Unanswered f l w = w
-text_ends law host_part text frames lines out out' err err' BadReply f l w = w
-text_ends law host_part text frames lines out out' err err' Journal f l w = w
-text_ends law host_part text frames lines out out' err err' DiskFault f l w = w
+text_ends law host_part text frames lines out out' err err' _ f l w = w
 
 -- ---- the command
 
@@ -98,41 +86,15 @@ converted_ends name host_part old new text Done is ends = (text, is, ends)
 converted_ends name host_part old new text Lines is ends = (text, is, ends)
 converted_ends name host_part old new text SinkFault is ends = (text, is, ends)
 converted_ends name host_part old new text Memory is ends = (ends.0, ends.1, inr (text, is.0))
-converted_ends name host_part old new text Usage is ends = absurd ends
-converted_ends name host_part old new text Config is ends = absurd ends
-converted_ends name host_part old new text ReadFault is ends = absurd ends
-converted_ends name host_part old new text LinkFault is ends = absurd ends
-converted_ends name host_part old new text Script is ends = absurd ends
-converted_ends name host_part old new text Truncated is ends = absurd ends
-converted_ends name host_part old new text TooLong is ends = absurd ends
-converted_ends name host_part old new text Tests is ends = absurd ends
-converted_ends name host_part old new text Verdict is ends = absurd ends
-converted_ends name host_part old new text Unanswered is ends = absurd ends
-converted_ends name host_part old new text BadReply is ends = absurd ends
-converted_ends name host_part old new text Journal is ends = absurd ends
-converted_ends name host_part old new text DiskFault is ends = absurd ends
+converted_ends name host_part old new text _ is ends = absurd ends
 
 pub converted_reads : (name : List ℕ) (host_part : Option ℕ) (text : List ℕ) (out out' err err' : SinkReport)
     (reads reads' : Option (List StoreRead)) (status : Status)
     → ConvertsText host_part text out out' err err' status → ReadMore (good_read name ∷ []) reads reads'
     → ReadsOnce name reads reads' status
-converted_reads name host_part text out out' err err' reads reads' Done ends grew = grew
-converted_reads name host_part text out out' err err' reads reads' Lines ends grew = grew
-converted_reads name host_part text out out' err err' reads reads' SinkFault ends grew = grew
 converted_reads name host_part text out out' err err' reads reads' Memory ends grew = inr grew
-converted_reads name host_part text out out' err err' reads reads' Usage ends grew = grew
-converted_reads name host_part text out out' err err' reads reads' Config ends grew = grew
 converted_reads name host_part text out out' err err' reads reads' ReadFault ends grew = absurd ends
-converted_reads name host_part text out out' err err' reads reads' LinkFault ends grew = grew
-converted_reads name host_part text out out' err err' reads reads' Script ends grew = grew
-converted_reads name host_part text out out' err err' reads reads' Truncated ends grew = grew
-converted_reads name host_part text out out' err err' reads reads' TooLong ends grew = grew
-converted_reads name host_part text out out' err err' reads reads' Tests ends grew = grew
-converted_reads name host_part text out out' err err' reads reads' Verdict ends grew = grew
-converted_reads name host_part text out out' err err' reads reads' Unanswered ends grew = grew
-converted_reads name host_part text out out' err err' reads reads' BadReply ends grew = grew
-converted_reads name host_part text out out' err err' reads reads' Journal ends grew = grew
-converted_reads name host_part text out out' err err' reads reads' DiskFault ends grew = grew
+converted_reads name host_part text out out' err err' reads reads' _ ends grew = grew
 
 -- the file was not read
 pub fault_ends : (name : List ℕ) (shown : Bor (List ℕ)) (host_part : Option ℕ) (old new : Reports) (fault : FileFault)
@@ -149,15 +111,13 @@ fault_ends name shown host_part old new file.Memory is cause same says = (same, 
 pub fault_reads : (name : List ℕ) (shown : Bor (List ℕ)) (reads reads' : Option (List StoreRead)) (fault : FileFault)
     → ReadMore (reads_of name (Err fault)) reads reads'
     → ReadsOnce name reads reads' (status_of (ending_of_file shown FILE_LIMIT fault))
-fault_reads name shown reads reads' file.Unread grew = grew
-fault_reads name shown reads reads' file.TooLong grew = grew
 fault_reads name shown reads reads' file.Memory grew = inl grew
+fault_reads name shown reads reads' _ grew = grew
 
 pub fault_not_converted : (shown : Bor (List ℕ)) (fault : FileFault)
     → IsConverted (status_of (ending_of_file shown FILE_LIMIT fault)) → ⊥
 fault_not_converted shown file.Unread done = done
-fault_not_converted shown file.TooLong done = done
-fault_not_converted shown file.Memory done = done
+fault_not_converted shown _ done = done
 
 -- ---- completeness
 
@@ -191,14 +151,4 @@ convert_complete name host_part old new ReadFault ends text holds fits read_stil
     let rose : Rose old.store.faults new.store.faults = ends.0 in omega (arith, rose, read_still.0, read_still.1)
 convert_complete name host_part old new TooLong ends text holds fits read_still put_still err_still =
     not_over (old.store.held name) text FILE_LIMIT holds fits ends.0
-convert_complete name host_part old new Usage ends text holds fits read_still put_still err_still = ends.2
-convert_complete name host_part old new Config ends text holds fits read_still put_still err_still = ends.2
-convert_complete name host_part old new LinkFault ends text holds fits read_still put_still err_still = ends.2
-convert_complete name host_part old new Script ends text holds fits read_still put_still err_still = ends.2
-convert_complete name host_part old new Truncated ends text holds fits read_still put_still err_still = ends.2
-convert_complete name host_part old new Tests ends text holds fits read_still put_still err_still = ends.2
-convert_complete name host_part old new Verdict ends text holds fits read_still put_still err_still = ends.2
-convert_complete name host_part old new Unanswered ends text holds fits read_still put_still err_still = ends.2
-convert_complete name host_part old new BadReply ends text holds fits read_still put_still err_still = ends.2
-convert_complete name host_part old new Journal ends text holds fits read_still put_still err_still = ends.2
-convert_complete name host_part old new DiskFault ends text holds fits read_still put_still err_still = ends.2
+convert_complete name host_part old new _ ends text holds fits read_still put_still err_still = ends.2
