@@ -13,7 +13,7 @@ import tempfile
 from server import PATIENCE, Checks, Failed
 
 DONE, USAGE, READ_FAULT, SCRIPT = 0, 1, 3, 7
-CONFIG = b'(tcp-server {:host "127.0.0.1" :port 15591}) (streams index)'
+CONFIG = b'(tcp-server {:host "127.0.0.1" :port 15598}) (streams index)'
 CANONICAL = b'(tcp-server {:host "127.0.0.1" :port 5555})\n(streams)\n'
 USAGE_LINE = b"riemann: usage: feed CONFIG FILE, "
 # No text in UTF-8: a byte that begins none, a character that is cut off, one that is too long, and half of a pair.

@@ -15,7 +15,7 @@ import tempfile
 import threading
 import time
 
-from server import OK, PATIENCE, Checks, Failed, Server, event, frame, query, receive, receive_frame, reply_of
+from server import OK, PATIENCE, Checks, Failed, Server, Skipped, event, frame, hold, receive, receive_frame, reply_of
 
 PORT = 15558
 DONE, USAGE, LINK_FAULT, TRUNCATED, UNANSWERED, BAD_REPLY = 0, 1, 5, 8, 13, 14
@@ -108,7 +108,11 @@ def is_over_ipv6(checks):
         receive_frame(connection)
         connection.sendall(OK)
 
-    with StandIn(act, "::1", socket.AF_INET6) as server:
+    try:
+        server = StandIn(act, "::1", socket.AF_INET6)
+    except OSError as fault:
+        raise Skipped(f"no IPv6 on loopback: {fault}") from fault
+    with server:
         expect_call(checks, (DONE, b"0 ok\n", b""), "query", f"[::1]:{server.port}", "true")
 
 
@@ -118,8 +122,8 @@ def is_refused(checks):
         port = free.getsockname()[1]
     begun = time.monotonic()
     expect_call(checks, (LINK_FAULT, b"", b"riemann: links failed\n"), "query", f"127.0.0.1:{port}", "true")
-    if time.monotonic() - begun > 2:
-        raise Failed("a refused connection took over two seconds")
+    if time.monotonic() - begun > PATIENCE / 2:
+        raise Failed("a refused connection is waited for")
     expect_call(checks, (LINK_FAULT, b"", b"riemann: links failed\n"), "query", "127.0.0.1", "true")
 
 
@@ -226,6 +230,7 @@ def is_truncated(checks):
 
 
 def main():
+    hold(PORT)
     program = str(pathlib.Path(sys.argv[1]).resolve())
     with tempfile.TemporaryDirectory() as folder:
         checks = Checks(program, pathlib.Path(folder))

@@ -11,15 +11,13 @@ says what it skips without them. It takes some seconds, listens on port 15570, a
 import contextlib
 import fcntl
 import os
-import pathlib
 import shutil
 import struct
 import subprocess
 import sys
-import tempfile
 
-from journal import DISK_FAILED, DISK_FAULT, READ, Keeper, Run, check_found, config, event_of, expect_end, read_journal
-from server import OK, Checks, Failed, frame, receive
+from journal import DISK_FAILED, DISK_FAULT, PORT, READ, Keeper, Run, check_found, config, event_of, expect_end, read_journal
+from server import OK, Failed, Skipped, frame, need, receive, run_all
 
 MEGABYTE = 1_048_576
 BLOCK = 4_096
@@ -28,13 +26,8 @@ FIBMAP = 1
 TRIES = 20
 
 
-class Skipped(Exception):
-    """What the machine does not let be tried."""
-
-
 def call(*words):
-    if shutil.which(words[0]) is None:
-        raise Skipped(f"there is no {words[0]}")
+    need(words[0])
     ran = subprocess.run([str(it) for it in words], capture_output=True, check=False)
     if ran.returncode:
         raise Skipped(f"{words[0]}: {ran.stderr.decode(errors='replace').strip()}")
@@ -151,6 +144,8 @@ def answer_more(checks, path, answered):
 
 
 def is_kept(checks):
+    if os.geteuid() != 0:
+        raise Skipped("not root")
     with contextlib.ExitStack() as stack:
         memory = stack.enter_context(mounted(checks.folder / "memory", "-t", "tmpfs", "-o", "size=33M", "tmpfs"))
         disk = Disk(memory)
@@ -168,25 +163,5 @@ def is_kept(checks):
         checks.note = f"{len(answered)} events were answered"
 
 
-def main():
-    if len(sys.argv) != 2:
-        sys.exit("usage: disk.py PROGRAM")
-    if os.geteuid() != 0:
-        print("skipped: it needs root")
-        return 0
-    with tempfile.TemporaryDirectory() as folder:
-        checks = Checks(pathlib.Path(sys.argv[1]).resolve(), pathlib.Path(folder))
-        checks.note = ""
-        try:
-            checks.run("a gate that was not written", is_kept)
-            if checks.note:
-                print(f"     {checks.note}")
-        except Skipped as skipped:
-            print(f"skipped: {skipped}")
-        finally:
-            checks.end_all()
-    return 1 if checks.failed else 0
-
-
 if __name__ == "__main__":
-    sys.exit(main())
+    sys.exit(run_all(__doc__, {"a gate that was not written": is_kept}, PORT))

@@ -14,12 +14,11 @@ import socket
 import struct
 import subprocess
 import sys
-import tempfile
 import threading
 import time
 
 from journal import BROKEN, ENDED, IDLE, LISTEN, OPENED, READ, ROOM, head, record_of
-from server import PATIENCE, Checks, Failed, Server, frame, query, receive_frame
+from server import PATIENCE, Failed, Server, frame, has_privileged_ports, query, receive_frame, run_all
 
 ROOT = pathlib.Path(__file__).resolve().parent.parent
 PORT = 15591
@@ -75,6 +74,10 @@ class Tools:
         if came != status or missing:
             raise Failed(f"{name} {arguments}: status {came}, without {missing}:\n{said}")
         return said
+
+
+def install(checks):
+    checks.tools = Tools(checks)
 
 
 def write(checks, name, text):
@@ -155,7 +158,7 @@ def addresses(checks):
     for host, port, said in (
         ("192.0.2.1", PORT, "no address of this machine"),
         ("no-such-host.invalid", PORT, "no host of this name"),
-        ("127.0.0.1", 1, "is for root"),
+        ("127.0.0.1", 1, "is for root" if has_privileged_ports() else ""),
         ("::1", PORT, ""),
     ):
         text = FITS.replace("127.0.0.1", host).replace(str(PORT), str(port))
@@ -218,7 +221,7 @@ def probe_of_a_server(checks):
     try:
         address = f"127.0.0.1:{PORT}"
         server.client().close()
-        checks.tools.says(0, [], "riemann-probe", address, "--wait", 5)
+        checks.tools.says(0, [], "riemann-probe", address, "--wait", PATIENCE)
         for _ in range(2):
             said = checks.tools.says(0, ["round trip", "live events", "resident memory", "processor time"], "riemann-probe", address)
         expect("live events: 4 events" in said, True, said)
@@ -238,13 +241,13 @@ def probe_of_no_server(checks):
     checks.tools.says(1, ["is not HOST:PORT"], "riemann-probe", "127.0.0.1")
     begun = time.monotonic()
     checks.tools.says(1, ["Connection refused"], "riemann-probe", address, "--wait", 1)
-    if not 1 <= time.monotonic() - begun < 3:
+    if not 1 <= time.monotonic() - begun < PATIENCE:
         raise Failed("it did not wait a second")
     ended = subprocess.Popen(["true"])
     ended.wait()
     begun = time.monotonic()
-    checks.tools.says(1, ["its process ended"], "riemann-probe", address, "--wait", 5, env={**os.environ, "MAINPID": str(ended.pid)})
-    if time.monotonic() - begun > 3:
+    checks.tools.says(1, ["its process ended"], "riemann-probe", address, "--wait", 60, env={**os.environ, "MAINPID": str(ended.pid)})
+    if time.monotonic() - begun > PATIENCE:
         raise Failed("it waited for a process that ended")
 
 
@@ -255,7 +258,7 @@ def probe_of_a_late_server(checks):
     later = threading.Timer(0.7, lambda: servers.append(Server(checks, PORT)))
     later.start()
     try:
-        checks.tools.says(0, [], "riemann-probe", config, "--wait", 10)
+        checks.tools.says(0, [], "riemann-probe", config, "--wait", PATIENCE)
     finally:
         later.join()
         servers[0].stop()
@@ -299,22 +302,5 @@ CHECKS = {
 }
 
 
-def main():
-    if len(sys.argv) != 2:
-        print(__doc__.splitlines()[0], file=sys.stderr)
-        return 1
-    with tempfile.TemporaryDirectory() as folder:
-        folder = pathlib.Path(folder)
-        folder.chmod(0o755)
-        checks = Checks(str(pathlib.Path(sys.argv[1]).resolve()), folder)
-        checks.tools = Tools(checks)
-        try:
-            for name, check in CHECKS.items():
-                checks.run(name, check)
-        finally:
-            checks.end_all()
-    return 1 if checks.failed else 0
-
-
 if __name__ == "__main__":
-    sys.exit(main())
+    sys.exit(run_all(__doc__, CHECKS, PORT, prepare=install))

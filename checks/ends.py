@@ -15,9 +15,10 @@ import tempfile
 import time
 
 from client import StandIn, call, silent
-from scarce import Scarce, Time, moment_of, processor_seconds, serving, urgent_data
-from server import OK, PATIENCE, Failed, ask, compiled, event, expect, frame, query, receive, receive_frame, reply_of
+from scarce import PORT, Scarce, Time, moment_of, processor_seconds, serving, urgent_data
+from server import OK, PATIENCE, Failed, ask, compiled, event, expect, frame, hold, query, receive, receive_frame, reply_of
 
+OTHER_PORT = 15570
 PIECE = 65_536
 UNANSWERED = 13
 
@@ -73,28 +74,38 @@ def turns_of_a_server(checks):
         taken = processor_seconds(server) - before
         if taken > 0.2:
             raise Failed(f"an idle server took {taken} seconds of a processor in two")
-    begun = time.monotonic()
     checks.files, checks.journal, checks.variables = None, None, {}
-    process = checks.start('(tcp-server {:port 15570}) (streams index)', "--turns", "20")
-    if process.wait(PATIENCE) != 0:
-        raise Failed(f"status {process.returncode}")
-    expect_seconds(time.monotonic() - begun)
+
+    def turns():
+        process = checks.start(f"(tcp-server {{:port {OTHER_PORT}}}) (streams index)", "--turns", "20")
+        if process.wait(PATIENCE) != 0:
+            raise Failed(f"status {process.returncode}")
+
+    expect_seconds(turns)
 
 
 def turns_of_a_client(checks):
     """The same of a client whose server says nothing."""
-    with StandIn(silent) as server:
-        begun = time.monotonic()
-        status, out, err = call(checks, "query", f"127.0.0.1:{server.port}", "true", "--turns", "20")
+
+    def turns():
+        with StandIn(silent) as server:
+            status, out, err = call(checks, "query", f"127.0.0.1:{server.port}", "true", "--turns", "20")
         if (status, out) != (UNANSWERED, b""):
             raise Failed(f"status {status}, {err!r}")
-    expect_seconds(time.monotonic() - begun)
+
+    expect_seconds(turns)
 
 
-def expect_seconds(seconds):
-    """Twenty turns wait two seconds, but for those in which something happens."""
-    if not 1.5 < seconds < 4.0:
-        raise Failed(f"20 turns took {seconds:.1f} seconds")
+def expect_seconds(turns):
+    """Twenty turns wait two seconds, but for those in which something happens. A busy machine may take longer: the first
+    of five tries that is no longer counts."""
+    took = []
+    while len(took) < 5 and (not took or took[-1] >= 4.0):
+        begun = time.monotonic()
+        turns()
+        took.append(time.monotonic() - begun)
+    if not 1.5 < took[-1] < 4.0:
+        raise Failed(f"20 turns took {took} seconds")
 
 
 # ---- bytes
@@ -208,6 +219,7 @@ def main():
     if len(sys.argv) != 2:
         print(__doc__.splitlines()[0], file=sys.stderr)
         return 1
+    hold(PORT, OTHER_PORT)
     with tempfile.TemporaryDirectory() as folder:
         checks = Scarce(str(pathlib.Path(sys.argv[1]).resolve()), pathlib.Path(folder))
         checks.clock, checks.names = compiled("clock", folder), compiled("names", folder)

@@ -25,7 +25,7 @@ import tempfile
 import threading
 import time
 
-from server import OK, PATIENCE, Checks, Failed, field, frame, query, receive, receive_frame, reply_of, varint
+from server import OK, PATIENCE, Checks, Failed, field, frame, hold, query, receive, receive_frame, reply_of, varint
 
 PORT = 15570
 DONE, CONFIG, LINK_FAULT, JOURNAL, DISK_FAULT = 0, 2, 5, 15, 16
@@ -611,6 +611,7 @@ def main():
     parser.add_argument("--kills", type=int, default=300)
     parser.add_argument("--only", default="")
     given = parser.parse_args()
+    hold(PORT)
     with tempfile.TemporaryDirectory() as folder:
         folder = pathlib.Path(folder)
         folder.chmod(0o755)
@@ -619,14 +620,11 @@ def main():
         shutil.copy(given.program, program)
         program.chmod(0o755)
         checks = Checks(program, folder)
-        checks.kills, checks.note = given.kills, ""
+        checks.kills = given.kills
         try:
             for name, check in CHECKS.items():
                 if given.only in name:
                     checks.run(name, check)
-                    if checks.note:
-                        print(f"     {checks.note}", flush=True)
-                        checks.note = ""
         finally:
             checks.end_all()
     return 1 if checks.failed else 0

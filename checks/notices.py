@@ -30,7 +30,7 @@ import tempfile
 import threading
 import time
 
-from server import Checks, Failed, field, frame, varint
+from server import Failed, field, frame, need, run_all, varint
 
 ROOT = pathlib.Path(__file__).resolve().parent.parent
 EXAMPLES = ROOT / "examples"
@@ -197,16 +197,9 @@ class Sender:
         return self.errors.read_text().count("not taken, try")
 
 
-def end_all(checks):
-    for process in checks.processes:
-        with contextlib.suppress(ProcessLookupError):
-            os.killpg(process.pid, signal.SIGKILL)
-        process.wait()
-    checks.processes.clear()
-
-
 def certificate(checks):
     """A certificate of this machine, and its key."""
+    need("openssl")
     key, text = checks.folder / "key.pem", checks.folder / "certificate.pem"
     if not text.exists():
         words = "openssl req -x509 -newkey rsa:2048 -nodes -days 2 -subj /CN=localhost -addext subjectAltName=DNS:localhost"
@@ -485,6 +478,7 @@ class Entries:
 
 
 def journal_is_read(checks):
+    need("journalctl", JOURNAL_REMOTE)
     with posts_to(checks, "slack", {0: 503}, SLACK_LINES="1000", SLACK_SECONDS="0") as (sender, tries):
         entries = Entries(sender.folder)
         del sender.settings["NOTICES_FILE"]
@@ -544,29 +538,5 @@ CHECKS = {
 }
 
 
-def missing(name):
-    """What a check needs and is not installed."""
-    if name.startswith("mail") and not shutil.which("openssl"):
-        return "openssl"
-    if "journal" in name and not (shutil.which("journalctl") and os.path.exists(JOURNAL_REMOTE)):
-        return "systemd-journal-remote"
-    return None
-
-
-def main():
-    program = pathlib.Path(sys.argv[1]).resolve()
-    with tempfile.TemporaryDirectory() as folder:
-        checks = Checks(program, pathlib.Path(folder))
-        for name, check in CHECKS.items():
-            if tool := missing(name):
-                print(f"skip {name}: no {tool}")
-                continue
-            try:
-                checks.run(name, check)
-            finally:
-                end_all(checks)
-    return 1 if checks.failed else 0
-
-
 if __name__ == "__main__":
-    sys.exit(main())
+    sys.exit(run_all(__doc__, CHECKS))

@@ -15,23 +15,20 @@ import re
 import shutil
 import subprocess
 import sys
-import tempfile
 import time
 
-from server import Checks, Failed
+from server import Failed, Skipped, need, run_all
 
 ROOT = pathlib.Path(__file__).resolve().parent.parent
 PACKAGE = "riemann-server"
 LIB = "usr/lib/riemann"
 PATIENCE = 600.0
+# A command has mounts of its own, so that none is left.
+MOUNTS = ("unshare", "--mount", "--propagation", "private")
 PATH = "/usr/sbin:/usr/bin:/sbin:/bin"
-PORT = 15595
+PORT = 15597
 MOMENT = "1796201861"
 CONFIG = f'(tcp-server {{:host "127.0.0.1" :port {PORT}}}) (streams index)'
-
-
-class Skipped(Exception):
-    """A check that cannot be made on this machine, and why."""
 
 
 def expect(seen, wanted, what):
@@ -39,15 +36,12 @@ def expect(seen, wanted, what):
         raise Failed(f"{what}: {seen!r} for {wanted!r}")
 
 
-def need(*tools):
-    for tool in tools:
-        if not shutil.which(tool):
-            raise Skipped(f"no {tool}")
-
-
-def need_root():
+def need_chroot():
+    need("chroot", "unshare")
     if os.geteuid() != 0:
         raise Skipped("not root")
+    if subprocess.run([*MOUNTS, "true"], capture_output=True, check=False).returncode:
+        raise Skipped("no mounts may be made")
 
 
 def run(*words, status=0, **more):
@@ -136,14 +130,13 @@ def has_no_error(checks):
 
 
 def chroot(folder, *words, **more):
-    """A command in a folder, with mounts of its own, so that none is left."""
+    """A command in a folder."""
     more.setdefault("env", {"PATH": PATH, "DEBIAN_FRONTEND": "noninteractive", "LC_ALL": "C"})
-    return run("unshare", "--mount", "--propagation", "private", "chroot", folder, *words, **more)
+    return run(*MOUNTS, "chroot", folder, *words, **more)
 
 
 def runs_with_the_files_of_the_image(checks):
-    need("chroot", "unshare")
-    need_root()
+    need_chroot()
     text = (ROOT / "packaging/Containerfile").read_text()
     folder = checks.folder / "image"
     for source, target in re.findall(r"^COPY (?:--from=base )?(\S+) (\S+)$", text, re.MULTILINE):
@@ -161,7 +154,7 @@ def runs_with_the_files_of_the_image(checks):
     words = [it.strip('" ') for it in f"{entry}, {command}".split(",")]
     server = subprocess.Popen(["chroot", f"--userspec={user}", folder, *words], stderr=subprocess.PIPE)
     checks.processes.append(server)
-    deadline = time.monotonic() + 10
+    deadline = time.monotonic() + 30
     while (asked := subprocess.run([checks.program, "query", f"127.0.0.1:{PORT}", "true"], capture_output=True, check=False)).returncode:
         if time.monotonic() > deadline or server.poll() is not None:
             raise Failed(f"no reply: {asked.stderr}")
@@ -170,17 +163,19 @@ def runs_with_the_files_of_the_image(checks):
 
 
 def is_installed_and_removed(checks):
-    need("debootstrap", "chroot", "unshare")
-    need_root()
+    need("debootstrap")
+    need_chroot()
     folder, package = checks.folder / "debian", build(checks, "first")
     suite = platform.freedesktop_os_release().get("VERSION_CODENAME", "stable")
-    words = ["unshare", "--mount", "--propagation", "private", "debootstrap", "--variant=minbase", "--include=adduser,python3"]
+    words = [*MOUNTS, "debootstrap", "--variant=minbase", "--include=adduser,python3", suite, folder]
+    made = subprocess.Popen(words, stdout=subprocess.PIPE, stderr=subprocess.STDOUT, text=True, start_new_session=True)
+    checks.processes.append(made)
     try:
-        made = subprocess.run([*words, suite, folder], capture_output=True, text=True, timeout=PATIENCE, check=False)
+        said = made.communicate(timeout=PATIENCE)[0]
     except subprocess.TimeoutExpired as fault:
         raise Skipped(f"debootstrap {suite} took more than {PATIENCE:.0f} seconds") from fault
     if made.returncode:
-        raise Skipped(f"debootstrap {suite} failed: {(made.stdout + made.stderr).strip().splitlines()[-1]}")
+        raise Skipped(f"debootstrap {suite} failed: {said.strip()[-200:]}")
     shutil.copy(package, folder / "tmp")
     before = {str(it) for it in folder.rglob("*")}
     chroot(folder, "dpkg", "-i", f"/tmp/{package.name}")
@@ -215,22 +210,5 @@ CHECKS = {
 }
 
 
-def main():
-    program = pathlib.Path(sys.argv[1]).resolve()
-    with tempfile.TemporaryDirectory() as folder:
-        checks = Checks(program, pathlib.Path(folder))
-        for name, check in CHECKS.items():
-            try:
-                checks.run(name, check)
-            except Skipped as why:
-                print(f"skip {name}: {why}", flush=True)
-            finally:
-                for process in checks.processes:
-                    process.kill()
-                    process.wait()
-                checks.processes.clear()
-    return 1 if checks.failed else 0
-
-
 if __name__ == "__main__":
-    sys.exit(main())
+    sys.exit(run_all(__doc__, CHECKS, PORT))

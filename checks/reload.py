@@ -16,10 +16,9 @@ import socket
 import struct
 import subprocess
 import sys
-import tempfile
 import time
 
-from server import OK, PATIENCE, Checks, Failed, event, field, frame, query, receive_frame, varint
+from server import OK, PATIENCE, Failed, event, field, frame, query, receive_frame, run_all, varint
 
 ROOT = pathlib.Path(__file__).resolve().parent.parent
 PORT, OTHER_PORT = 15592, 15593
@@ -249,7 +248,7 @@ def events_in_words(checks):
     shown = subprocess.run([checks.program, "query", f"127.0.0.1:{PORT}", "true"], capture_output=True, timeout=PATIENCE).stdout.decode()
     came = re.search(r"time=(\d+)", shown)
     fits = "metric=-9223372036854775808" in shown and 'tags=["x" "y"] @"k"="v=w" @"l"=""' in shown and "ttl=2147483520" in shown
-    expect((fits, now <= int(came[1]) <= now + 2), (True, True), shown)
+    expect((fits, now <= int(came[1]) <= time.time()), (True, True), shown)
     unit.stop()
     for words, said in (
         (["--metric", "0.9"], "'0.9' is not a whole number"),
@@ -303,19 +302,5 @@ CHECKS = {
 }
 
 
-def main():
-    if len(sys.argv) != 2:
-        print(__doc__.splitlines()[0], file=sys.stderr)
-        return 1
-    with tempfile.TemporaryDirectory() as folder:
-        checks = Checks(str(pathlib.Path(sys.argv[1]).resolve()), pathlib.Path(folder))
-        for name, check in CHECKS.items():
-            try:
-                checks.run(name, check)
-            finally:
-                checks.end_all()
-    return 1 if checks.failed else 0
-
-
 if __name__ == "__main__":
-    sys.exit(main())
+    sys.exit(run_all(__doc__, CHECKS, PORT, OTHER_PORT))

@@ -21,13 +21,56 @@ HERE = pathlib.Path(__file__).resolve().parent
 FIRST_PORT, PORT, TAKEN_PORT = 15555, 15556, 15557
 LINKS = 256
 LIMIT = 4_194_304
-PATIENCE = 10.0
+PATIENCE = 30.0
 LINKS_FAILED = b"riemann: links failed\n"
 LINK_FAULT = 5
 
 
 class Failed(Exception):
     """A check that did not hold, with what was seen."""
+
+
+class Skipped(Exception):
+    """A check that this machine does not let be made, and why."""
+
+
+def need(*tools):
+    for tool in tools:
+        if not shutil.which(tool):
+            raise Skipped(f"no {tool}")
+
+
+# ---- ports
+
+HELD = []
+
+
+def hold(*ports):
+    """Waits until no other check and no other program of this machine has these ports. No other check has them before this
+    process ends."""
+    deadline = time.monotonic() + 20 * PATIENCE
+    for port in sorted(ports):
+        HELD.append(socket.socket(socket.AF_UNIX))
+        while True:
+            try:
+                # A name that is in no file, and goes with the process.
+                HELD[-1].bind(f"\0riemann checks {port}")
+                break
+            except OSError:
+                if time.monotonic() > deadline:
+                    raise
+                time.sleep(0.1)
+        while True:
+            with socket.socket() as tried:
+                tried.setsockopt(socket.SOL_SOCKET, socket.SO_REUSEADDR, 1)
+                try:
+                    tried.bind(("0.0.0.0", port))
+                    tried.listen()
+                    break
+                except OSError as fault:
+                    if time.monotonic() > deadline:
+                        raise OSError(f"another program has the port {port}") from fault
+                    time.sleep(0.1)
 
 
 # ---- messages, in the wire format of Protocol Buffers
@@ -114,7 +157,7 @@ class Checks:
 
     def __init__(self, program, folder):
         self.program, self.folder = program, folder
-        self.processes, self.failed = [], 0
+        self.processes, self.failed, self.note = [], 0, ""
 
     def start(self, config, *options, user=None):
         path = self.folder / f"{len(self.processes)}.config"
@@ -135,16 +178,48 @@ class Checks:
         try:
             check(self)
             outcome = "ok  "
-        except (Failed, OSError, subprocess.TimeoutExpired) as fault:
+        except Skipped as why:
+            outcome, name = "skip", f"{name}: {why}"
+        except (Failed, OSError, subprocess.SubprocessError) as fault:
             self.failed += 1
             outcome, name = "FAIL", f"{name}: {fault}"
         print(f"{outcome} {name} ({time.monotonic() - begun:.1f} s)", flush=True)
+        if self.note:
+            print(f"     {self.note}", flush=True)
+            self.note = ""
 
     def end_all(self):
+        """Ends each program, and what it started where it has a session of its own."""
         for process in self.processes:
             if process.poll() is None:
-                process.kill()
+                kill = os.killpg if os.getpgid(process.pid) == process.pid else os.kill
+                kill(process.pid, signal.SIGKILL)
                 process.wait()
+
+
+def run_all(about, named, *ports, prepare=lambda checks: None):
+    """Runs the checks of these names with the program that the arguments name, and gives the status. `prepare` comes first,
+    and the ports are theirs alone."""
+    if len(sys.argv) != 2:
+        print(about.splitlines()[0], file=sys.stderr)
+        return 1
+    hold(*ports)
+    # Another user looks into the folders too.
+    os.umask(0o022)
+    with tempfile.TemporaryDirectory(ignore_cleanup_errors=True) as folder:
+        folder = pathlib.Path(folder)
+        folder.chmod(0o755)
+        checks = Checks(str(pathlib.Path(sys.argv[1]).resolve()), folder)
+        try:
+            prepare(checks)
+            for name, check in named.items():
+                checks.run(name, check)
+                checks.end_all()
+        except Skipped as why:
+            print(f"skip all: {why}")
+        finally:
+            checks.end_all()
+    return 1 if checks.failed else 0
 
 
 def compiled(source, folder):
@@ -380,6 +455,7 @@ def main():
     if len(sys.argv) != 2:
         print(__doc__.splitlines()[0], file=sys.stderr)
         return 1
+    hold(FIRST_PORT, PORT, TAKEN_PORT)
     with tempfile.TemporaryDirectory() as folder:
         folder = pathlib.Path(folder)
         folder.chmod(0o755)

@@ -10,10 +10,9 @@ with status 1 if one failed. It needs a C compiler, says so without one, listens
 import os
 import pathlib
 import sys
-import tempfile
 
-from journal import JOURNAL, READ, Keeper, config, event_of, expect_end, read_head, read_record
-from server import OK, Checks, Failed, compiled, frame, receive
+from journal import JOURNAL, PORT, READ, Keeper, config, event_of, expect_end, read_head, read_record
+from server import OK, Failed, Skipped, compiled, frame, receive, run_all
 
 REPLIES = 20
 # More than two of the pieces in which a file is written back.
@@ -180,24 +179,12 @@ CHECKS = {
 }
 
 
-def main():
-    if len(sys.argv) != 2:
-        sys.exit("usage: synced.py PROGRAM")
-    program = pathlib.Path(sys.argv[1]).resolve()
-    with tempfile.TemporaryDirectory() as folder:
-        os.chdir(folder)
-        checks = Checks(program, pathlib.Path(folder))
-        checks.library = compiled("calls", folder)
-        if checks.library is None:
-            print("skipped: there is no C compiler")
-            return 0
-        try:
-            for name, check in CHECKS.items():
-                checks.run(name, check)
-        finally:
-            checks.end_all()
-    return 1 if checks.failed else 0
+def log_calls(checks):
+    os.chdir(checks.folder)
+    checks.library = compiled("calls", checks.folder)
+    if checks.library is None:
+        raise Skipped("no C compiler")
 
 
 if __name__ == "__main__":
-    sys.exit(main())
+    sys.exit(run_all(__doc__, CHECKS, PORT, prepare=log_calls))

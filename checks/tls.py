@@ -13,10 +13,9 @@ import socket
 import ssl
 import subprocess
 import sys
-import tempfile
 import time
 
-from server import OK, PATIENCE, Checks, Failed, Server, event, frame, query, receive, reply_of
+from server import OK, PATIENCE, Failed, Server, event, frame, need, query, receive, reply_of, run_all
 
 RECIPES = pathlib.Path(__file__).resolve().parent.parent / "examples/tls"
 PORT, TLS_PORT, CLIENT_PORT = 15594, 15595, 15596
@@ -142,6 +141,7 @@ def another_client_is_answered(checks):
 
 def recipe_is_tried(proxy, name, outsiders):
     def check(checks):
+        need(proxy.__name__)
         server = Server(checks, PORT)
         server.client().close()
         proxy(checks, TLS_PORT, name)
@@ -173,32 +173,22 @@ def authority_is_sound(checks):
     expect(modes, wanted | {"ca.pem": "0o644", "users": "0o600"} | {it: modes[it] for it in modes if it == "ca.srl"}, "the files")
 
 
-def main():
-    if len(sys.argv) != 2:
-        print(__doc__.splitlines()[0], file=sys.stderr)
-        return 1
-    if not shutil.which("openssl"):
-        print("skip TLS: openssl is not installed")
-        return 0
-    with tempfile.TemporaryDirectory() as folder:
-        checks = Checks(str(pathlib.Path(sys.argv[1]).resolve()), pathlib.Path(folder))
-        checks.tls, checks.other = checks.folder / "tls", checks.folder / "other"
-        certificates(checks.tls, "server", "web1", "ops")
-        certificates(checks.tls, "stranger")
-        certificates(checks.other, "web1")
-        (checks.tls / "users").write_text("web1\nops\n")
-        (checks.tls / "users").chmod(0o600)
-        checks.run("an authority and its certificates", authority_is_sound)
-        for proxy, name, outsiders in ((stunnel, "stunnel.conf", ()), (haproxy, "haproxy.cfg", ("stranger",))):
-            if not shutil.which(proxy.__name__):
-                print(f"skip {proxy.__name__}: it is not installed", flush=True)
-                continue
-            try:
-                checks.run(f"{proxy.__name__} before a server", recipe_is_tried(proxy, name, outsiders))
-            finally:
-                checks.end_all()
-    return 1 if checks.failed else 0
+def certify(checks):
+    need("openssl")
+    checks.tls, checks.other = checks.folder / "tls", checks.folder / "other"
+    certificates(checks.tls, "server", "web1", "ops")
+    certificates(checks.tls, "stranger")
+    certificates(checks.other, "web1")
+    (checks.tls / "users").write_text("web1\nops\n")
+    (checks.tls / "users").chmod(0o600)
+
+
+CHECKS = {
+    "an authority and its certificates": authority_is_sound,
+    "stunnel before a server": recipe_is_tried(stunnel, "stunnel.conf", ()),
+    "haproxy before a server": recipe_is_tried(haproxy, "haproxy.cfg", ("stranger",)),
+}
 
 
 if __name__ == "__main__":
-    sys.exit(main())
+    sys.exit(run_all(__doc__, CHECKS, PORT, TLS_PORT, CLIENT_PORT, prepare=certify))

@@ -18,11 +18,10 @@ import signal
 import socket
 import subprocess
 import sys
-import tempfile
 import time
 
 from journal import DISK_FAULT, JOURNAL, LINK_FAULT, LISTEN, OPENED, READ, event_of, head, limit_files, record_of
-from server import OK, PATIENCE, Checks, Failed, event, frame, query, receive_frame, reply_of
+from server import OK, PATIENCE, Failed, event, frame, query, receive_frame, reply_of, run_all
 
 ROOT = pathlib.Path(__file__).resolve().parent.parent
 PORT = 15590
@@ -276,14 +275,6 @@ def is_mounted_again(checks):
     service.goes_on()
 
 
-def end_all(checks):
-    for process in checks.processes:
-        with contextlib.suppress(ProcessLookupError):
-            os.killpg(process.pid, signal.SIGKILL)
-        process.wait()
-    checks.processes.clear()
-
-
 CHECKS = {
     "each status and signal, as the table says": is_as_the_table_says,
     "files in which a journal is begun, or resumed": is_begun_or_resumed,
@@ -296,17 +287,5 @@ CHECKS = {
 }
 
 
-def main():
-    program = pathlib.Path(sys.argv[1]).resolve()
-    with tempfile.TemporaryDirectory() as folder:
-        checks = Checks(program, pathlib.Path(folder))
-        for name, check in CHECKS.items():
-            try:
-                checks.run(name, check)
-            finally:
-                end_all(checks)
-    return 1 if checks.failed else 0
-
-
 if __name__ == "__main__":
-    sys.exit(main())
+    sys.exit(run_all(__doc__, CHECKS, PORT))
