@@ -1,18 +1,14 @@
 -- A reply with found events is written whole, or refused where it would be too long.
-use Rattle.std.proofs.Common.{◌≡◌, ℕ, zero, suc, ◌<◌, ◌≤◌, true, false, List, [], ◌∷◌, ◌++◌, length, take, refl, sym}
+use Rattle.std.proofs.Common.{◌≡◌, ℕ, ◌<◌, ◌≤◌, true, false, List, ◌++◌, length, sym}
 use Rattle.std.proofs.Common.{ap, ◌∙◌, subst, arith}
-use denote.Ref.{Bor}
 use Rattle.std.specs.Prelude.{nat_le, Result, OnOk}
 use Rattle.std.proofs.lemmas.Bool.Decides.{nat_tests}
-use Rattle.std.proofs.lemmas.List.{length-map}
-use Rattle.ev_types.specs.declared.event.Event.{Event}
 use Rattle.event_core.specs.declared.arrivals.Core.{Core}
 use Rattle.event_core.specs.Core.{Represents, config_of, state_by}
 use Rattle.framing.specs.declared.TheConstants.{BODY_LIMIT}
 use Rattle.list_laws.specs.declared.memory.Memory.{Memory}
 use Rattle.pred_eval.specs.Tree.{Tree}
 use Rattle.riemann_msg.specs.declared.msg.Msg.{Msg}
-use Rattle.riemann_msg.specs.Reply.{events_lent}
 use Rattle.riemann_msg.specs.Spelling.{spelling}
 use Rattle.stream_meaning.specs.Arrivals.{Arrival, matching_events}
 use Rattle.hub_meaning.specs.Replies.{found, framed, limited, over_limit, refused}
@@ -68,18 +64,3 @@ over core rule size replies replies' result large measures wrote =
     wrote ∙ ap (λ size. replies ++ framed (refused (over_limit size))) is
     ∙ ap (λ msg. replies ++ framed msg)
     (sym (limited_over (found_by rule core arrivals) (subst (λ n. BODY_LIMIT < n) is (above size large))))) wrote
-
--- ---- the first events that are found
-
-take-few : (limit : ℕ) (events : List Event) → length (take limit events) < limit → take limit events ≡ events
-take-few zero events few = absurd (omega (arith, few))
-take-few (suc limit) [] few = refl
-take-few (suc limit) (event ∷ events) few = ap (λ es. event ∷ es) (take-few limit events (omega (arith, few)))
-
--- fewer than the limit are all
-pub all_of_few : (lent : List (Bor Event)) (events : List Event) (limit : ℕ) → events_lent lent ≡ take limit events
-    → length lent < limit → events_lent lent ≡ events
-all_of_few lent events limit is few =
-    is
-    ∙ take-few limit events
-    (omega (arith, few, ap length is, length-map lent (λ (event : Bor Event). event.now)))

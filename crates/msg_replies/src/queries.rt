@@ -1,4 +1,4 @@
-ghost use Rattle.std.specs.Prelude.{◌≡◌, ◌≢◌, ◌^◌, ◌<◌, ◌++◌, [], length, true, false, OnOk, IfOk, Some, None, List};
+ghost use Rattle.std.specs.Prelude.{◌≡◌, ◌≢◌, ◌^◌, ◌<◌, ◌++◌, [], length, true, OnOk, IfOk, Some, None, List};
 ghost use Rattle.std.specs.String.{string_bytes};
 ghost use Rattle.event_core.specs.Core.{Represents, config_of, state_by};
 ghost use Rattle.hub_meaning.specs.Messages.{query_text, rule_read};
@@ -24,9 +24,6 @@ use std::alloc::{AllocError, Global};
 use std::mem;
 use step_count::{Ledger, Steps};
 use stored_event::{Stored, found_len, write_lent};
-
-/// The length of a reply with at most so many events is summed over them. It takes half a microsecond for each.
-const FEW: usize = 4_096;
 
 /// Appends the reply to the query of a message that was accepted. `unsent` is how many bytes of earlier replies were
 /// not taken.
@@ -174,35 +171,25 @@ fn put_found<G: Ledger>(
         (limited (found (matching_events pred.old (state_by (config_of core.old) arrivals).log)))) }
 {
     core.prepare(alloc, pred)?;
-    if put_few(alloc, pred, core, replies, steps)? {
-        return Ok(());
-    }
-    put_many(alloc, pred, core, replies, steps)
+    put_matching(alloc, pred, core, replies, steps)
 }
 
-/// Appends the reply if no more than [`FEW`] events meet the predicate, and says whether that is so.
-fn put_few<G: Ledger>(
+/// The same from a core that is prepared for the predicate. One walk finds the events.
+fn put_matching<G: Ledger>(
     alloc: Global,
     pred: &mut Pred,
     core: &Core,
     replies: &mut Blob,
     steps: &mut Steps<G>,
-) -> Result<bool, Memory>
-    ensures pred { pred.new ≡ pred.old }
+) -> Result<(), Memory>
     ensures forks { steps.new.forks ≡ steps.old.forks }
-    ensures found { IfOk result (λ few. few ≡ true → (arrivals : List Arrival)
-        → Represents core.now arrivals → replies.new ≡ replies.old ++ framed
+    ensures found { OnOk result ((arrivals : List Arrival) → Represents core.now arrivals
+        → replies.new ≡ replies.old ++ framed
         (limited (found (matching_events pred.old (state_by (config_of core.now) arrivals).log)))) }
-    ensures many { IfOk result (λ few. few ≡ false → replies.new ≡ replies.old) }
 {
     let mut events = Vec::new(alloc);
-    core.index()?
-        .find_first(alloc, pred, FEW + 1, &mut events, steps)?;
-    if events.len() > FEW {
-        return Ok(false);
-    }
-    put_limited(alloc, events.as_slice(), replies)?;
-    Ok(true)
+    core.index()?.find(alloc, pred, &mut events, steps)?;
+    put_limited(alloc, events.as_slice(), replies)
 }
 
 /// Appends a reply with these events, written from where they lie, or that it would be too long. The length is known
@@ -219,29 +206,6 @@ fn put_limited(
     let size = found_len(events)?;
     if fits(size) {
         put_lent(alloc, events, size, replies)
-    } else {
-        refuse_long(alloc, size, replies)
-    }
-}
-
-/// Appends the reply with the live events that meet the predicate, of which there may be many. The length of the reply
-/// is known before any event is lent, so no event is lent for a reply that is too long.
-fn put_many<G: Ledger>(
-    alloc: Global,
-    pred: &mut Pred,
-    core: &mut Core,
-    replies: &mut Blob,
-    steps: &mut Steps<G>,
-) -> Result<(), Memory>
-    ensures same { core.new ≡ core.old }
-    ensures forks { steps.new.forks ≡ steps.old.forks }
-    ensures found { OnOk result ((arrivals : List Arrival) → Represents core.old arrivals
-        → replies.new ≡ replies.old ++ framed
-        (limited (found (matching_events pred.old (state_by (config_of core.old) arrivals).log)))) }
-{
-    let size = core.found_len(alloc, pred, steps)?;
-    if fits(size) {
-        put_events(alloc, pred, core, size, replies, steps)
     } else {
         refuse_long(alloc, size, replies)
     }
