@@ -12,4 +12,5 @@ pub mod SplitLaws
 pub mod TraceLaws
 pub mod RisenLaws
 pub mod MadeLaws
+pub mod BlankLaws
 pub mod LastLaws

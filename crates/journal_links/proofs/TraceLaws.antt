@@ -2,7 +2,7 @@
 use Rattle.std.proofs.Common.{◌≡◌, inl, inr, ℕ, Bool, true, false, List, [], ◌∷◌, ◌++◌, ◌<◌, length, refl, sym, ◌∙◌, ap}
 use Rattle.std.proofs.Common.{arith, subst}
 use Rattle.std.proofs.lemmas.Bool.{false_from_ne_true, leb-true}
-use Rattle.std.specs.Prelude.{Option, Some}
+use Rattle.std.specs.Prelude.{Option, Some, None}
 use Rattle.journal_format.specs.declared.turn_record.Summary.{Summary}
 use Rattle.journal_format.specs.declared.turn_record.TurnRecord.{TurnRecord}
 use Rattle.journal_links.specs.Steps.{CloseOf, GivesAgain, ListenOf, NextOf, Progress, SendOf, close_again}
@@ -23,15 +23,17 @@ use Rattle.ports.specs.declared.links.What.TheVariants.{Broken, Memory}
 use Rattle.ports.proofs.CallLemmas.{calls_then, no_calls}
 use Rattle.recorded_links.specs.Keeping.{HandsOut, is_ready, is_recorded}
 use Rattle.recorded_links.specs.Noting.{Noted, noted}
-use Rattle.recorded_links.specs.Sending.{after_send}
-use Rattle.recorded_links.specs.Steps.{OwnStep, Seen, own_full, own_refused, own_taken}
+use Rattle.recorded_links.specs.Sending.{after_send, may_note}
+use Rattle.recorded_links.specs.Numbers.{inner_number}
+use Rattle.recorded_links.specs.Steps.{CloseStep, OwnStep, Rests, Seen, SendStep, Unsent, own_full, own_refused}
+use Rattle.recorded_links.specs.Steps.{own_taken}
 use Rattle.recorded_links.proofs.NoteLaws.{close_noted, listen_quiet, send_noted, turn_quiet}
 use Rattle.recorded_links.specs.Giving.{MayFollow}
 use Rattle.recorded_links.specs.Lending.{Keeps, Lent}
 use Rattle.recorded_links.specs.Making.{AreCalls, closed, listened, none_yet, one_more, sent, turned}
-use Rattle.recorded_links.specs.Passing.{closed_own, stops, unasked}
-use Rattle.recorded_links.proofs.CallLaws.{keeps_listen, keeps_next}
-use Rattle.recorded_links.proofs.GivenLaws.{may_close_step, may_none, may_send_step, may_still}
+use Rattle.recorded_links.specs.Passing.{stops, unasked}
+use Rattle.recorded_links.proofs.CallLaws.{keeps_close, keeps_listen, keeps_next, keeps_send}
+use Rattle.recorded_links.proofs.GivenLaws.{may_close_step, may_still}
 use Rattle.recorded_links.proofs.JournalLaws.{keeps_begun, keeps_same}
 use Rattle.journal_links.specs.Opened.{first_free}
 use Rattle.journal_links.specs.Asking.{AsksFor, IsAfter, IsAgain, breaks, closes_again, closes_inner, gives_again}
@@ -254,23 +256,23 @@ listen_more lent records calls calls' old new was is address answer all log (lis
 
 -- ---- `send` and `close`
 
--- of a send after the journal's turns
-sent_later : (lent : Lent) (broken : Option ℕ) (later : List Entry) (old new : Seen) (link : ℕ) (bytes : List ℕ)
-    (answer : SendAnswer)
-    → Keeps lent (MayFollow broken old.first old.inner) later old.kept old.sends old.spent
-    → new.sends ≡ after_send link answer old.sends
-    → new.kept ≡ old.kept → (old.spent ≡ true → new.spent ≡ true)
-    → (old.spent ≡ true → (entry : TurnRecord) → MayFollow broken old.first old.inner entry
-    → MayFollow broken old.first new.inner entry)
-    → Keeps lent (MayFollow broken old.first new.inner) (later ++ send_entries link bytes answer)
-    new.kept new.sends new.spent
-sent_later lent broken later old new link bytes answer keeps sends kept stays may =
-    let noted_as = send_noted later (later ++ send_entries link bytes answer) link bytes answer refl in
-    keeps_same lent (MayFollow broken old.first old.inner) (MayFollow broken old.first new.inner) later
-    (later ++ send_entries link bytes answer) old.kept new.kept old.sends new.sends old.spent
-    new.spent keeps (ap (λ (so_far : Noted). so_far.records) noted_as)
-    (ap (λ (so_far : Noted). so_far.sends) noted_as ∙ (ap (after_send link answer) keeps.sends_are ∙ sym sends)) kept
-    stays may
+-- a send that was passed on, and was out of memory
+pub unsent_of : (old new : Seen) (link : ℕ) (bytes : List ℕ) (answer : SendAnswer) → answer ≡ send.Memory
+    → SendStep old new link bytes answer → Unsent old new
+unsent_of old new link bytes answer memory step = record {
+  calls = by_number (inner_number old.first link) refl (may_note link (length bytes) old.sends) refl;
+  sends = step.sends ∙ ap (λ (a : SendAnswer). after_send link a old.sends) memory;
+  kept = step.kept;
+  faults = step.faults;
+}
+  where
+    by_number : (at : Option ℕ) → inner_number old.first link ≡ at → (t : Bool)
+        → may_note link (length bytes) old.sends ≡ t → AddsCalls old.inner new.inner []
+    by_number None is t may = let later = (step.own is).0 in absurd (cc (memory, later))
+    by_number (Some number) is true may =
+        subst (λ (a : SendAnswer). AddsCalls old.inner new.inner (send_entries number bytes a)) memory
+        (step.passed number is may)
+    by_number (Some number) is false may = let later = (step.unnoted may).0 in absurd (cc (memory, later))
 
 send_more : (lent : Lent) (records : List TurnRecord) (calls calls' : List Entry) (old new : Seen) (was is : Progress)
     (link : ℕ) (bytes : List ℕ) (answer : SendAnswer) → Traces old.first lent records calls old was
@@ -288,32 +290,27 @@ send_more lent records calls calls' old new was is link bytes answer all log
 send_more lent records calls calls' old new was is link bytes answer all log (send_passed over step stays) spends =
     after_passed lent records calls calls' (send_entries link bytes answer) old new was is all
     (send_asks old new link bytes answer step) log
-    (sent_later lent (Some (last_secs records)) all.later old new link bytes answer all.keeps step.sends step.kept
-    step.spent (λ was. may_send_step (Some (last_secs records)) old new link bytes answer step)) over stays.records
-    stays.given
+    (keeps_send lent (Some (last_secs records)) all.later (all.later ++ send_entries link bytes answer) old new link bytes
+    answer all.keeps refl (λ some. step) (λ memory. unsent_of old new link bytes answer memory step) spends) over
+    stays.records stays.given
 send_more lent records calls calls' old new was is link bytes answer all log (send_memory over memory unsent stays)
     spends =
     after_passed lent records calls calls' (send_entries link bytes answer) old new was is all
     (unsent_asks old new link bytes answer memory unsent) log
-    (sent_later lent (Some (last_secs records)) all.later old new link bytes answer all.keeps
-    (unsent.sends ∙ sym (ap (λ (answer : SendAnswer). after_send link answer old.sends) memory)) unsent.kept
-    (λ was. spends memory) (λ was. may_none (Some (last_secs records)) old.first old.inner new.inner unsent.calls))
-    over stays.records stays.given
+    (keeps_send lent (Some (last_secs records)) all.later (all.later ++ send_entries link bytes answer) old new link bytes
+    answer all.keeps refl (λ some. absurd (some memory)) (λ none. unsent) spends) over stays.records stays.given
 
--- of a close after them
-closed_later : (lent : Lent) (broken : Option ℕ) (later : List Entry) (old new : Seen) (link : ℕ)
-    → Keeps lent (MayFollow broken old.first old.inner) later old.kept old.sends old.spent → new.sends ≡ old.sends
-    → new.kept ≡ old.kept
-    → (old.spent ≡ true → new.spent ≡ true)
-    → (old.spent ≡ true → (entry : TurnRecord) → MayFollow broken old.first old.inner entry
-    → MayFollow broken old.first new.inner entry)
-    → Keeps lent (MayFollow broken old.first new.inner) (later ++ Close link ∷ []) new.kept new.sends new.spent
-closed_later lent broken later old new link keeps sends kept stays may =
-    let noted_as = close_noted later (later ++ Close link ∷ []) link refl in
-    keeps_same lent (MayFollow broken old.first old.inner) (MayFollow broken old.first new.inner) later
-    (later ++ Close link ∷ []) old.kept new.kept old.sends new.sends old.spent new.spent keeps
-    (ap (λ (so_far : Noted). so_far.records) noted_as)
-    (ap (λ (so_far : Noted). so_far.sends) noted_as ∙ (keeps.sends_are ∙ sym sends)) kept stays may
+-- the close of a link that is not an inner one
+rests_close : (old new : Seen) (link : ℕ) → inner_number old.first link ≡ None → Rests old new
+    → (old.spent ≡ true → new.spent ≡ true) → CloseStep old new link
+rests_close old new link none rests stays = record {
+  passed = λ number at. absurd (cc (none, at));
+  own = λ same. rests.inner;
+  sends = rests.sends;
+  kept = rests.kept;
+  faults = rests.faults;
+  spent = stays;
+}
 
 close_more : (lent : Lent) (records : List TurnRecord) (calls calls' : List Entry) (old new : Seen) (was is : Progress)
     (link : ℕ) → Traces old.first lent records calls old was → calls' ≡ calls ++ Close link ∷ []
@@ -325,10 +322,9 @@ close_more lent records calls calls' old new was is link all log
     by_over : (t : Bool) → is_over was ≡ t → Traces old.first lent records calls' new is
     by_over true over =
         after_passed lent records calls calls' (Close link ∷ []) old new was is all
-        (asks_none old.first old.sends (Close link ∷ []) old.inner new.inner
-        (closed_own link none refl refl) rests.inner) log
-        (closed_later lent (Some (last_secs records)) all.later old new link all.keeps rests.sends rests.kept stays
-        (λ was. may_still (Some (last_secs records)) old.first old.inner new.inner rests.inner)) over same given
+        (close_asks old new link (rests_close old new link none rests stays)) log
+        (keeps_close lent (Some (last_secs records)) all.later (all.later ++ Close link ∷ []) old new link all.keeps refl
+        (rests_close old new link none rests stays)) over same given
     by_over false over =
         let noted_as = close_noted calls calls' link log in
         again_own old.first lent records calls calls' (Close link ∷ []) old new was is all
@@ -342,9 +338,8 @@ close_more lent records calls calls' old new was is link all log (close_passed n
     by_over : (t : Bool) → is_over was ≡ t → Traces old.first lent records calls' new is
     by_over true over =
         after_passed lent records calls calls' (Close link ∷ []) old new was is all (close_asks old new link step) log
-        (closed_later lent (Some (last_secs records)) all.later old new link all.keeps step.sends step.kept step.spent
-        (λ was. may_close_step (Some (last_secs records)) old new link step)) over stays.records
-        stays.given
+        (keeps_close lent (Some (last_secs records)) all.later (all.later ++ Close link ∷ []) old new link all.keeps refl
+        step) over stays.records stays.given
     by_over false over =
         let noted_as = close_noted calls calls' link log in
         again_more old.first lent records calls calls' (Close link ∷ []) (Close number ∷ []) old new was is all

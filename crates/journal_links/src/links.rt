@@ -18,8 +18,11 @@ use crate::again::{first_answer, last_secs, next_turn};
 use crate::{OpenLinks, Replay};
 use disk_port::Disk;
 use ev_types::{Blob, Text};
-use ports::{Links, ListenAnswer, PIECE_LIMIT, SendAnswer, Turn, Wants, What};
-use recorded_links::{CallLog, RecordedLinks, log_listen, log_send, log_turn};
+use ports::{
+    CallLog, Links, ListenAnswer, PIECE_LIMIT, SendAnswer, Turn, Wants, What, log_listen, log_send,
+    log_turn,
+};
+use recorded_links::RecordedLinks;
 use std::alloc::Global;
 
 /// The links of a server that keeps a journal. First they give the turns that the journal had, and then those of the

@@ -1,7 +1,7 @@
 -- Journals that are loaded after crashes.
 use Rattle.std.proofs.Common.{◌≡◌, ℕ, List, ◌++◌, refl, ap, ◌∙◌, append_assoc}
 use Rattle.disk_port.specs.Past.{LeavesOnly, Past}
-use Rattle.journal_format.specs.Journals.{Holds, Journal}
+use Rattle.journal_format.specs.Journals.{Journal}
 use Rattle.journal_format.specs.Laws.{JournalsAreOne}
 use Rattle.journal_format.specs.declared.turn_record.TurnRecord.{TurnRecord}
 use Rattle.recorded_links.specs.Giving.{MayFollow}

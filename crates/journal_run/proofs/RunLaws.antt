@@ -1,32 +1,37 @@
 -- What is known of links and of a disk after a run over links that record.
-use Rattle.std.proofs.Common.{◌≡◌, ◌≢◌, ℕ, ◌+◌, ◌<◌, ◌≤◌, Bool, true, false, List, [], ◌++◌, Err, refl, sym, ◌∙◌, ap}
+use Rattle.std.proofs.Common.{◌≡◌, ◌≢◌, ℕ, ◌+◌, ◌-◌, ◌<◌, ◌≤◌, Bool, true, false, List, [], ◌++◌, Err, refl, sym, ◌∙◌, ap}
 use Rattle.std.proofs.Common.{subst, arith}
 use Rattle.std.proofs.Math.Logic.{∥∥₁_map}
-use Rattle.std.specs.Prelude.{Result, None}
+use Rattle.std.specs.Prelude.{Result, Some, None}
 use Rattle.disk_port.specs.Calls.{DiskReport}
 use Rattle.disk_port.specs.Past.{Leaves, Past}
-use Rattle.hub_run.specs.Runs.{AddsRun, RunReport, RunsTo}
+use Rattle.hub_run.specs.Quiet.{RunsQuietly}
+use Rattle.hub_run.specs.Runs.{AddsRun, RunReport}
 use Rattle.hub_run.specs.conn_core.declared.hub.Hub.{Hub}
 use Rattle.hub_run.specs.declared.fault.RunFault.{RunFault}
 use Rattle.hub_run.specs.declared.fault.RunFault.TheVariants as run
 use Rattle.hub_run.specs.declared.setup.Setup.{Setup}
+use Rattle.hub_run.proofs.PlainLaws.{runs_plainly}
 use Rattle.journal_format.specs.Journals.{Holds, Journal}
 use Rattle.journal_format.specs.declared.finder.Found.{Found}
-use Rattle.journal_format.specs.declared.turn_record.Summary.{Summary}
 use Rattle.journal_format.specs.declared.turn_record.TurnRecord.{TurnRecord}
-use Rattle.journal_run.specs.Recorded.{IsRecordedIn, RecordsIn, RunsRecorded, run_result}
+use Rattle.journal_links.specs.Making.{resuming, unresumed}
+use Rattle.journal_links.proofs.BlankLaws.{recorded_calls}
+use Rattle.journal_run.specs.Recorded.{IsRecordedIn, RunsRecorded, run_result}
+use Rattle.journal_run.specs.Resumed.{RunsResumed}
 use Rattle.journal_run.specs.declared.fault.JournalRunFault.{JournalRunFault}
 use Rattle.journal_run.specs.declared.fault.JournalRunFault.TheVariants.{Links, Disk}
 use Rattle.list_laws.specs.Counts.{Rose}
 use Rattle.ports.specs.Calls.{LinksReport}
 use Rattle.ports.specs.declared.entry.Entry.{Entry}
 use Rattle.recorded_links.specs.Noting.{noted}
-use Rattle.recorded_links.specs.Steps.{Seen, seen}
-use Rattle.recorded_links.specs.Lending.{Lent, Passed, Traces, disk_faults, traced_report}
+use Rattle.recorded_links.specs.Lending.{Lent, Passed, disk_faults, traced_report}
+use Rattle.recorded_links.specs.Making.{LeadsTo, recording, uncalled}
 use Rattle.recorded_links.specs.Giving.{MayFollow}
 use Rattle.recorded_links.specs.Recording.{AreRecorded}
 use Rattle.recorded_links.proofs.CrashLaws.{leaves_all, leaves_first}
-use Rattle.turn_journal.specs.Standing.{Stands}
+use Rattle.recorded_links.proofs.TraceLaws.{first_made, traces_made}
+use Rattle.turn_journal.specs.Standing.{Stands, Told}
 
 -- ---- what is lent is at last what a call left
 
@@ -69,65 +74,77 @@ recorded_in journal start gate has turns next now stands recorded =
       last = leaves_all journal start now turns next left recorded;
     }
 
-records_in : (lent : Lent) (calls : List Entry) (seen : Seen) (disk' : DiskReport) → seen.first ≡ 0
-    → seen.kept.past ≡ disk'.past → ∥ Traces lent calls seen ∥₁
-    → RecordsIn lent.found seen.inner lent.disk disk' calls
-records_in lent calls seen disk' first same traces = λ journal start told stands.
-    ∥∥₁_map traces (λ (all : Traces lent calls seen).
-    let kept = all.keeps.journal journal start told stands in (
-      kept.now,
-      sym same ∙ kept.reported,
-      recorded_in journal start lent.found.gate lent.found.has_record (noted calls).records
-          (MayFollow None 0 seen.inner) kept.now stands
-          (subst (λ (n : ℕ). AreRecorded journal start (noted calls).records (MayFollow None n seen.inner) kept.now)
-          first kept.recorded),
-    ))
+-- ---- a run that resumes a journal with no records
 
-passed_by : (lent : Lent) (calls : List Entry) (seen : Seen) → seen.first ≡ 0 → ∥ Traces lent calls seen ∥₁
-    → ∥ Passed 0 lent.links calls seen.inner ∥₁
-passed_by lent calls seen first traces =
-    ∥∥₁_map traces
-    (λ (all : Traces lent calls seen). subst (λ (n : ℕ). Passed n lent.links calls seen.inner) first all.passed)
+-- these calls led to what the links and the disk report
+abbrev Leads : Found → LinksReport → LinksReport → DiskReport → DiskReport → List Entry → Type 0
+Leads found links links' disk disk' calls = LeadsTo recording (uncalled 0 found links disk) calls links' disk'
 
--- ---- the run
+abbrev LeadsFrom : Found → LinksReport → LinksReport → DiskReport → DiskReport → List Entry → Type 0
+LeadsFrom found links links' disk disk' calls = LeadsTo resuming (unresumed found [] links disk) calls links' disk'
 
-ran_lent : (setup : Setup) (limit : ℕ) (lent : Lent) (calls : List Entry) (links' : LinksReport) (first : ℕ)
-    (disk' : DiskReport) (gate : ℕ) (has : Bool) (sends : List Summary) (spent : Bool) (old new : RunReport)
-    (result : Result Hub JournalRunFault)
-    → first ≡ 0 → RunsTo setup limit old new (run_result result) calls
-    → ∥ Traces lent calls (seen links' first disk' gate has sends spent) ∥₁
-    → RunsRecorded setup limit lent.found lent.links links' lent.disk disk' old new result
-ran_lent setup limit lent calls links' first disk' gate has sends spent old new result is runs traces = record {
-  calls = calls;
-  runs = runs;
-  made = ∥∥₁_map traces (λ (all : Traces lent calls (seen links' first disk' gate has sends spent)).
-      record {
-        now = seen links' first disk' gate has sends spent;
-        made = all.made;
-        inner = refl;
-        past = refl;
-        faults =
-            refl;
-      });
-  passed = passed_by lent calls (seen links' first disk' gate has sends spent) is traces;
-  journal = records_in lent calls (seen links' first disk' gate has sends spent) disk' is refl traces;
+recorded_so : (found : Found) (links links' : LinksReport) (disk disk' : DiskReport) (calls : List Entry)
+    → LeadsFrom found links links' disk disk' calls → Leads found links links' disk disk' calls
+recorded_so found links links' disk disk' calls all = record {
+  now = (all.now).seen;
+  made = (recorded_calls found links disk calls all.now all.made).made;
+  inner = all.inner;
+  past = all.past;
+  faults = all.faults;
 }
 
-pub ran_recorded : (setup : Setup) (limit : ℕ) (lent : Lent) (found : Found) (links : LinksReport) (disk : DiskReport)
-    (calls : List Entry) (links' : LinksReport) (first : ℕ) (disk' : DiskReport) (gate : ℕ) (has : Bool)
-    (sends : List Summary) (spent : Bool)
-    (old new : RunReport) (result : Result Hub JournalRunFault) → lent.found ≡ found → lent.links ≡ links
-    → lent.disk ≡ disk → first ≡ 0 → RunsTo setup limit old new (run_result result) calls
-    → ∥ Traces lent calls (seen links' first disk' gate has sends spent) ∥₁
+abbrev lent_so : Found → LinksReport → DiskReport → Lent
+lent_so found links disk = record { links_name = 0; disk_name = 0; links = links; disk = disk; found = found }
+
+records_in : (found : Found) (links links' : LinksReport) (disk disk' : DiskReport) (calls : List Entry)
+    → Leads found links links' disk disk' calls → (journal : Journal) (start : Past) → disk.past ≡ Some start
+    → Stands start found.gate found.has_record journal
+    → Told disk'.past (IsRecordedIn journal start (noted calls).records (MayFollow None 0 links'))
+records_in found links links' disk disk' calls all journal start told stands =
+    let lent = lent_so found links disk in
+    let traces = traces_made 0 lent calls all.now all.made in
+    let kept = (traces.keeps).journal journal start told stands in
+    let first = first_made 0 lent calls all.now all.made in
+    let next : ℕ → LinksReport → Type 0 = λ n report.
+    AreRecorded journal start (noted calls).records (MayFollow None n report) kept.now in (
+      kept.now,
+      sym all.past ∙ kept.reported,
+      recorded_in journal start found.gate found.has_record (noted calls).records (MayFollow None 0 links') kept.now
+          stands
+          (subst (next 0) all.inner (subst (λ (n : ℕ). next n (all.now).inner) first kept.recorded)),
+    )
+
+passed_by : (found : Found) (links links' : LinksReport) (disk disk' : DiskReport) (calls : List Entry)
+    → Leads found links links' disk disk' calls → Passed 0 links calls links'
+passed_by found links links' disk disk' calls all =
+    let lent = lent_so found links disk in
+    let traces = traces_made 0 lent calls all.now all.made in
+    subst (Passed 0 links calls) all.inner
+    (subst (λ (n : ℕ). Passed n links calls (all.now).inner) (first_made 0 lent calls all.now all.made) traces.passed)
+
+pub ran_recorded : (setup : Setup) (limit : ℕ) (found : Found) (records : List TurnRecord) (links links' : LinksReport)
+    (disk disk' : DiskReport) (old new : RunReport) (result : Result Hub JournalRunFault) → records ≡ []
+    → RunsResumed setup limit found records links links' disk disk' old new result
     → RunsRecorded setup limit found links links' disk disk' old new result
-ran_recorded setup limit lent found links disk calls links' first disk' gate has sends spent old new result found_is
-    links_are disk_is first_is runs traces =
-    subst (λ (end : Found). RunsRecorded setup limit end links links' disk disk' old new result) found_is
-    (subst (λ (report : LinksReport). RunsRecorded setup limit lent.found report links' disk disk' old new result)
-    links_are
-    (subst (λ (report : DiskReport). RunsRecorded setup limit lent.found lent.links links' report disk' old new result)
-    disk_is
-    (ran_lent setup limit lent calls links' first disk' gate has sends spent old new result first_is runs traces)))
+ran_recorded setup limit found records links links' disk disk' old new result none resumed =
+    by_none (subst (λ (entries : List TurnRecord).
+    RunsResumed setup limit found entries links links' disk disk' old new result) none resumed)
+  where
+    by_none : RunsResumed setup limit found [] links links' disk disk' old new result
+        → RunsRecorded setup limit found links links' disk disk' old new result
+    by_none ran =
+        let no_less : 0 - 2 ≡ 0 = omega arith in
+        let made = ∥∥₁_map ran.made (recorded_so found links links' disk disk' ran.calls) in record {
+          calls = ran.calls;
+          runs =
+              runs_plainly setup limit old new (run_result result) ran.calls
+              (subst (λ (n : ℕ). RunsQuietly setup limit n old new (run_result result) ran.calls) no_less ran.runs);
+          made = made;
+          passed = ∥∥₁_map made (passed_by found links links' disk disk' ran.calls);
+          journal = λ journal start told stands.
+              ∥∥₁_map made (λ (all : Leads found links links' disk disk' ran.calls).
+              records_in found links links' disk disk' ran.calls all journal start told stands);
+        }
 
 -- ---- faults
 

@@ -15,11 +15,10 @@ ghost use Rattle.journal_links.specs.Reading.{has_event};
 ghost use Rattle.journal_links.specs.Replaying.{summaries_next};
 
 use crate::fault::JournalRunFault;
-use crate::recorded::ended_so;
 use disk_port::Disk;
 use ev_types::Blob;
 use hub_run::conn_core::Hub;
-use hub_run::{Setup, run_quietly};
+use hub_run::{RunFault, Setup, run_quietly};
 use journal_format::Found;
 use journal_links::{
     JournalLinks, JournalLoan, OpenLinks, Replay, ResumedLinks, TurnRecords, last_opened,
@@ -203,4 +202,37 @@ fn run_noted<'a, L: Links, D: Disk, O: Sink, P: Patterns, G: Ledger, K: JournalL
     );
     *ran = ended_so(ended, noted.disk_failed);
     noted.links
+}
+
+/// How a run ended: if its links failed, their disk may have.
+fn ended_so(ended: Result<Hub, RunFault>, disk_failed: bool) -> Result<Hub, JournalRunFault>
+    ensures run { run_result result ≡ ended }
+    ensures disk { result ≡ Err JournalRunFault.Disk → (ended ≡ Err RunFault.Links) ×
+        (disk_failed ≡ true) }
+    ensures links { result ≡ Err JournalRunFault.Links → (ended ≡ Err RunFault.Links) ×
+        (disk_failed ≡ false) }
+    ensures sink { result ≡ Err JournalRunFault.Sink → ended ≡ Err RunFault.Sink }
+    ensures of_links { ended ≡ Err RunFault.Links → disk_failed ≡ false →
+        result ≡ Err JournalRunFault.Links }
+    ensures of_disk { ended ≡ Err RunFault.Links → disk_failed ≡ true →
+        result ≡ Err JournalRunFault.Disk }
+    ensures of_sink { ended ≡ Err RunFault.Sink → result ≡ Err JournalRunFault.Sink }
+{
+    match ended {
+        Ok(hub) => Ok(hub),
+        Err(RunFault::Links) => Err(links_fault(disk_failed)),
+        Err(RunFault::Sink) => Err(JournalRunFault::Sink),
+        Err(RunFault::Memory) => Err(JournalRunFault::Memory),
+    }
+}
+
+/// Why links failed that record.
+fn links_fault(disk_failed: bool) -> JournalRunFault
+    ensures disk { disk_failed ≡ true → result ≡ JournalRunFault.Disk }
+    ensures links { disk_failed ≡ false → result ≡ JournalRunFault.Links }
+{
+    if disk_failed {
+        return JournalRunFault::Disk;
+    }
+    JournalRunFault::Links
 }

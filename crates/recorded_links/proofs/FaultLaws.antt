@@ -1,5 +1,5 @@
 -- What each call of links that record adds to what they report, and to the faults of those that were lent to them.
-use Rattle.std.proofs.Common.{◌≡◌, ◌≢◌, ℕ, ◌+◌, ◌<◌, ◌≤◌, Bool, true, false, ◌||◌, List, ◌++◌, refl, sym, ◌∙◌, ap}
+use Rattle.std.proofs.Common.{◌≡◌, ℕ, ◌+◌, ◌<◌, ◌≤◌, Bool, true, false, ◌||◌, List, ◌++◌, refl, sym, ◌∙◌, ap}
 use Rattle.std.proofs.Common.{subst, arith, IsTrue}
 use Rattle.std.specs.Prelude.{Option, Some, None}
 use Rattle.std.specs.Option.{ForSome, option_map}
@@ -10,15 +10,13 @@ use Rattle.ports.specs.Links.{HasListenCause, HasNextCause, MayClose, is_unclose
 use Rattle.ports.specs.declared.entry.Entry.{Entry}
 use Rattle.ports.specs.declared.links.ListenAnswer.{ListenAnswer}
 use Rattle.ports.specs.declared.links.ListenAnswer.TheVariants as listen
-use Rattle.ports.specs.declared.links.SendAnswer.{SendAnswer}
-use Rattle.ports.specs.declared.links.SendAnswer.TheVariants as send
 use Rattle.ports.specs.declared.links.Turn.{Turn}
 use Rattle.ports.specs.declared.links.Want.{Want}
 use Rattle.ports.specs.declared.links.What.{What}
 use Rattle.ports.specs.declared.links.What.TheVariants.{Idle, Opened, Read, Ended, Broken, Room, Stopped, Failed}
 use Rattle.ports.specs.declared.links.What.TheVariants.{Memory}
 use Rattle.recorded_links.specs.Keeping.{FailedIf}
-use Rattle.recorded_links.specs.Steps.{Asks, ListenStep, NextStep, Seen, SendStep, Unsent, answered, listen_refused}
+use Rattle.recorded_links.specs.Steps.{Asks, ListenStep, NextStep, Seen, answered, listen_refused}
 use Rattle.recorded_links.specs.Steps.{listen_taken, next_full, next_refused, next_taken, not_asked, own_report}
 use Rattle.recorded_links.specs.Lending.{disk_faults, traced_report}
 
@@ -148,17 +146,6 @@ pub quiet_calls : (calls calls' made : List Entry) (links links' : LinksReport) 
     (traced_report calls' links' failed) made
 quiet_calls calls calls' made links links' failed log same =
     record { log = ap Some log; script = refl; plays = λ plays script is. absurd (cc is); faults = omega (arith, same) }
-
-pub send_still : (old new : Seen) (link : ℕ) (bytes : List ℕ) (answer : SendAnswer)
-    → (answer ≢ send.Memory → SendStep old new link bytes answer) → (answer ≡ send.Memory → Unsent old new)
-    → new.faults ≡ old.faults
-send_still old new link bytes answer step unsent = by_answer answer refl
-  where
-    by_answer : (asked : SendAnswer) → answer ≡ asked → new.faults ≡ old.faults
-    by_answer (send.Took count) is = (step (λ memory. absurd (cc (is, memory)))).faults
-    by_answer send.Later is = (step (λ memory. absurd (cc (is, memory)))).faults
-    by_answer send.Failed is = (step (λ memory. absurd (cc (is, memory)))).faults
-    by_answer send.Memory is = (unsent is).faults
 
 -- the faults of the inner links, where those of the disk are the same
 pub inner_still : (i i' d d' : ℕ) → i' + d' ≡ i + d → d' ≡ d → i' ≡ i

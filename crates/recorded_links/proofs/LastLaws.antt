@@ -3,55 +3,19 @@ use Rattle.std.proofs.Common.{◌≡◌, ℕ, false, List, [], ◌++◌, refl, s
 use Rattle.std.specs.Prelude.{None}
 use Rattle.journal_format.specs.Journals.{Journal}
 use Rattle.journal_format.specs.declared.turn_record.TurnRecord.{TurnRecord}
-use Rattle.ports.specs.declared.entry.Entry.{Entry}
 use Rattle.ports.specs.declared.links.SendAnswer.{SendAnswer}
 use Rattle.ports.specs.declared.links.SendAnswer.TheVariants as send
 use Rattle.recorded_links.specs.Keeping.{Kept}
 use Rattle.recorded_links.specs.Noting.{noted}
 use Rattle.recorded_links.specs.Steps.{Seen}
 use Rattle.recorded_links.proofs.NoteLaws.{close_noted, send_noted}
-use Rattle.recorded_links.specs.Giving.{MayFollow}
 use Rattle.recorded_links.specs.Laws.{LastTurnIsKept}
-use Rattle.recorded_links.specs.Lending.{Keeps, Lent}
-use Rattle.recorded_links.specs.Making.{AreCalls, Sends, closed, handed_out, listened, none_yet, one_more, recording}
-use Rattle.recorded_links.specs.Making.{sent, then_closed, then_sent, turned, uncalled}
+use Rattle.recorded_links.specs.Lending.{Lent}
+use Rattle.recorded_links.specs.Making.{Sends, handed_out, then_closed, then_sent}
 use Rattle.recorded_links.specs.Recording.{with_records}
-use Rattle.recorded_links.proofs.CallLaws.{keeps_close, keeps_handed, keeps_listen, keeps_next, keeps_send}
-use Rattle.recorded_links.proofs.JournalLaws.{keeps_begun}
-use Rattle.recorded_links.proofs.TraceLaws.{numbered}
+use Rattle.recorded_links.proofs.CallLaws.{keeps_handed}
+use Rattle.recorded_links.proofs.TraceLaws.{traces_made}
 use Rattle.turn_journal.specs.Standing.{Stands, Told}
-
--- a journal that stood there when the links were lent, after these calls
-keeps_made : (first : ℕ) (lent : Lent) (calls : List Entry) (now : Seen)
-    → AreCalls recording (uncalled first lent.found lent.links lent.disk) calls now
-    → Keeps lent (MayFollow None now.first now.inner) calls now.kept now.sends now.spent
-keeps_made first lent calls now (none_yet fresh is) =
-    let start : Seen = uncalled first lent.found lent.links lent.disk in
-    let begun : Keeps lent (MayFollow None start.first start.inner) [] start.kept start.sends start.spent =
-    keeps_begun lent (MayFollow None start.first start.inner) start.kept start.sends start.spent refl refl in
-    subst (λ (calls : List Entry). Keeps lent (MayFollow None now.first now.inner) calls now.kept now.sends now.spent)
-    (sym fresh)
-    (subst
-    (λ (seen : Seen). Keeps lent (MayFollow None seen.first seen.inner) [] seen.kept seen.sends seen.spent)
-    (sym is) begun)
-keeps_made first lent calls now (one_more before made old all (listened address answer step spends is) same log) =
-    numbered lent calls old now same
-    (keeps_listen lent None before calls old now address answer (keeps_made first lent before old all)
-    (log ∙ ap (λ more. before ++ more) is)
-    step spends)
-keeps_made first lent calls now (one_more before made old all (turned wants buf turn step spends is) same log) =
-    numbered lent calls old now same
-    (keeps_next lent None before calls old now wants buf turn (keeps_made first lent before old all)
-    (log ∙ ap (λ more. before ++ more) is)
-    step spends)
-keeps_made first lent calls now (one_more before made old all (sent link bytes answer step spends is) same log) =
-    numbered lent calls old now same
-    (keeps_send lent None before calls old now link bytes answer (keeps_made first lent before old all)
-    (log ∙ ap (λ more. before ++ more) is) step.0 step.1 spends)
-keeps_made first lent calls now (one_more before made old all (closed link step is) same log) =
-    numbered lent calls old now same
-    (keeps_close lent None before calls old now link (keeps_made first lent before old all)
-    (log ∙ ap (λ more. before ++ more) is) step)
 
 -- ---- sends and closes
 
@@ -81,7 +45,7 @@ last_kept first found links disk calls now journal start (handed_out before old 
     told stands =
     let lent : Lent = record { links_name = 0; disk_name = 0; links = links; disk = disk; found = found } in
     let keeps =
-    keeps_handed lent None before calls old now wants buf turn false (keeps_made first lent before old all) log
+    keeps_handed lent None before calls old now wants buf turn false (traces_made first lent before old all).keeps log
     step recorded in
     let here = keeps.journal journal start told stands in
     (here.now, here.reported, here.stands refl)

@@ -1,4 +1,3 @@
-pub mod MarkLemmas
 pub mod SendLaws
 pub mod KeepLaws
 pub mod StepLaws

@@ -10,10 +10,7 @@ use Rattle.ports.specs.Calls.{AddsCalls, LinksReport}
 use Rattle.ports.specs.Counts.{greatest}
 use Rattle.ports.specs.declared.entry.Entry.{Entry}
 use Rattle.recorded_links.specs.Keeping.{Kept}
-use Rattle.recorded_links.specs.Steps.{Seen}
-use Rattle.recorded_links.specs.Making.{AreCalls, recording, uncalled}
 use Rattle.recorded_links.specs.Noting.{noted}
-use Rattle.recorded_links.specs.Giving.{MayFollow}
 use Rattle.recorded_links.specs.Passing.{Passes}
 use Rattle.recorded_links.specs.Recording.{AreRecorded, with_records}
 use Rattle.turn_journal.specs.Standing.{Stands}
@@ -61,13 +58,6 @@ pub record Passed (first : ℕ) (lent : LinksReport) (calls : List Entry) (links
   pub asked : List Entry
   pub adds : AddsCalls lent links asked
   pub passes : Passes first calls asked
-
--- all that became of the journal and of the links since they were lent, in these calls
-pub record Traces (lent : Lent) (calls : List Entry) (seen : Seen) : Type 0 where
-  -- the calls, one after another, each as links that record say of it
-  pub made : AreCalls recording (uncalled 0 lent.found lent.links lent.disk) calls seen
-  pub keeps : Keeps lent (MayFollow None seen.first seen.inner) calls seen.kept seen.sends seen.spent
-  pub passed : Passed seen.first lent.links calls seen.inner
 
 -- what a fault of the disk adds to the faults of the links that were lent: as many as may be, so that nothing is said
 -- of a failure after it

@@ -1,4 +1,3 @@
-pub mod Marks
 pub mod Sending
 pub mod Numbers
 pub mod Keeping

@@ -6,16 +6,18 @@ ghost use Rattle.ports.specs.Links.{HasListenCause, HasNextCause, IsPieceWithin,
 ghost use Rattle.ports.specs.declared.entry.Entry.TheVariants.{Close};
 ghost use Rattle.recorded_links.specs.Keeping.{FailedIf, is_lost, is_lost_listen};
 ghost use Rattle.recorded_links.specs.Numbers.{Knows, first_after};
-ghost use Rattle.recorded_links.specs.Steps.{CloseStep, ListenStep, NextStep, SendStep, Unsent, own_report, seen};
+ghost use Rattle.recorded_links.specs.Steps.{CloseStep, ListenStep, NextStep, SendStep, Unsent, own_report};
 
 use crate::ask::{ask, inner_number};
-use crate::call_log::CallLog;
 use crate::recorder::TurnRecorder;
 use crate::room::TurnRoom;
 use disk_port::Disk;
 use ev_types::Text;
 use journal_format::{JOURNAL_LIMIT, STEP_LIMIT};
-use ports::{Links, ListenAnswer, PIECE_LIMIT, SendAnswer, Turn, Wants, What};
+use ports::{
+    CallLog, Links, ListenAnswer, PIECE_LIMIT, SendAnswer, Turn, Wants, What, log_listen, log_send,
+    log_turn,
+};
 use std::alloc::Global;
 use turn_journal::JournalFile;
 
@@ -75,44 +77,28 @@ impl<'a, L: Links, D: Disk> RecordedLinks<'a, L, D> {
 }
 
 impl<'a, L: Links, D: Disk> Links for RecordedLinks<'a, L, D> {
+    ghost use Rattle.recorded_links.specs.Seeing.{disk_of, report_of, seen_of};
+
     ghost report = { λ links. own_report links.log (L.report links.inner.now)
         (D.report links.recorder.journal.disk.now) };
 
     fn listen(&mut self, alloc: Global, address: &Text) -> ListenAnswer
-        ensures adds { AddsCalls
-            (own_report self.old.log (L.report self.old.inner.now)
-            (D.report self.old.recorder.journal.disk.now))
-            (own_report self.new.log (L.report self.new.inner.now)
-            (D.report self.new.recorder.journal.disk.now))
+        ensures adds { AddsCalls (report_of self.old) (report_of self.new)
             (listen_entries address.now result) }
-        ensures cause { HasListenCause
-            (own_report self.old.log (L.report self.old.inner.now)
-            (D.report self.old.recorder.journal.disk.now)).faults
-            (own_report self.new.log (L.report self.new.inner.now)
-            (D.report self.new.recorder.journal.disk.now)).faults result }
+        ensures cause { HasListenCause (report_of self.old).faults (report_of self.new).faults
+            result }
 
         // More than links must report: what the inner links were asked, and what the journal got before the answer.
-        ensures step { ListenStep
-            (seen (L.report self.old.inner.now) (first_after self.old.last)
-            (D.report self.old.recorder.journal.disk.now) self.old.recorder.journal.gate
-            self.old.recorder.journal.has_record self.old.recorder.sends.now.summaries.items
-            self.old.spent)
-            (seen (L.report self.new.inner.now) (first_after self.new.last)
-            (D.report self.new.recorder.journal.disk.now) self.new.recorder.journal.gate
-            self.new.recorder.journal.has_record self.new.recorder.sends.now.summaries.items
-            self.new.spent)
-            address.now result }
-        ensures disk_failed { FailedIf self.new.disk_failed
-            (D.report self.old.recorder.journal.disk.now).faults
-            (D.report self.new.recorder.journal.disk.now).faults }
+        ensures step { ListenStep (seen_of self.old) (seen_of self.new) address.now result }
+        ensures disk_failed { FailedIf self.new.disk_failed (disk_of self.old).faults
+            (disk_of self.new).faults }
         ensures log { self.new.log ≡ self.old.log ++ listen_entries address.now result }
         ensures failed { result ≡ ListenAnswer.Failed → self.new.disk_failed ≡ false →
             Rose (L.report self.old.inner.now).faults (L.report self.new.inner.now).faults }
         ensures lost { self.new.disk_failed ≡ true → result ≡ ListenAnswer.Failed }
         ensures memory { result ≡ ListenAnswer.Memory → self.new.spent ≡ true }
         ensures fault { self.new.disk_failed ≡ true → self.new.spent ≡ true }
-        ensures opened { (D.report self.new.recorder.journal.disk.now).opened
-            ≡ (D.report self.old.recorder.journal.disk.now).opened }
+        ensures opened { (disk_of self.new).opened ≡ (disk_of self.old).opened }
         ensures last { self.new.last ≡ self.old.last }
         ensures inner_same { self.new.inner.ghost_name ≡ self.old.inner.ghost_name }
         ensures disk_same { self.new.recorder.journal.disk.ghost_name
@@ -136,41 +122,23 @@ impl<'a, L: Links, D: Disk> Links for RecordedLinks<'a, L, D> {
     fn next(&mut self, alloc: Global, wants: &Wants, buf: &mut [u8]) -> Turn
         requires { length buf.old ≡ PIECE_LIMIT }
         ensures within { IsPieceWithin PIECE_LIMIT result.what }
-        ensures adds { AddsCalls
-            (own_report self.old.log (L.report self.old.inner.now)
-            (D.report self.old.recorder.journal.disk.now))
-            (own_report self.new.log (L.report self.new.inner.now)
-            (D.report self.new.recorder.journal.disk.now))
+        ensures adds { AddsCalls (report_of self.old) (report_of self.new)
             (next_entries wants.now buf.new result) }
-        ensures cause { HasNextCause
-            (own_report self.old.log (L.report self.old.inner.now)
-            (D.report self.old.recorder.journal.disk.now)).faults
-            (own_report self.new.log (L.report self.new.inner.now)
-            (D.report self.new.recorder.journal.disk.now)).faults result.what }
+        ensures cause { HasNextCause (report_of self.old).faults (report_of self.new).faults
+            result.what }
 
         // More than links must report: what the inner links were asked, and what the journal got before the turn was
         // handed out.
-        ensures step { NextStep
-            (seen (L.report self.old.inner.now) (first_after self.old.last)
-            (D.report self.old.recorder.journal.disk.now) self.old.recorder.journal.gate
-            self.old.recorder.journal.has_record self.old.recorder.sends.now.summaries.items
-            self.old.spent)
-            (seen (L.report self.new.inner.now) (first_after self.new.last)
-            (D.report self.new.recorder.journal.disk.now) self.new.recorder.journal.gate
-            self.new.recorder.journal.has_record self.new.recorder.sends.now.summaries.items
-            self.new.spent)
-            wants.now buf.new result }
-        ensures disk_failed { FailedIf self.new.disk_failed
-            (D.report self.old.recorder.journal.disk.now).faults
-            (D.report self.new.recorder.journal.disk.now).faults }
+        ensures step { NextStep (seen_of self.old) (seen_of self.new) wants.now buf.new result }
+        ensures disk_failed { FailedIf self.new.disk_failed (disk_of self.old).faults
+            (disk_of self.new).faults }
         ensures log { self.new.log ≡ self.old.log ++ next_entries wants.now buf.new result }
         ensures failed { result.what ≡ What.Failed → self.new.disk_failed ≡ false →
             Rose (L.report self.old.inner.now).faults (L.report self.new.inner.now).faults }
         ensures lost { self.new.disk_failed ≡ true → result.what ≡ What.Failed }
         ensures memory { result.what ≡ What.Memory → self.new.spent ≡ true }
         ensures fault { self.new.disk_failed ≡ true → self.new.spent ≡ true }
-        ensures opened { (D.report self.new.recorder.journal.disk.now).opened
-            ≡ (D.report self.old.recorder.journal.disk.now).opened }
+        ensures opened { (disk_of self.new).opened ≡ (disk_of self.old).opened }
         ensures last { self.new.last ≡ self.old.last }
         ensures inner_same { self.new.inner.ghost_name ≡ self.old.inner.ghost_name }
         ensures disk_same { self.new.recorder.journal.disk.ghost_name
@@ -206,42 +174,18 @@ impl<'a, L: Links, D: Disk> Links for RecordedLinks<'a, L, D> {
     fn send(&mut self, alloc: Global, link: u64, bytes: &[u8]) -> SendAnswer
         requires { 0 < length bytes.now }
         ensures within { IsWithin (length bytes.now) result }
-        ensures adds { AddsCalls
-            (own_report self.old.log (L.report self.old.inner.now)
-            (D.report self.old.recorder.journal.disk.now))
-            (own_report self.new.log (L.report self.new.inner.now)
-            (D.report self.new.recorder.journal.disk.now))
+        ensures adds { AddsCalls (report_of self.old) (report_of self.new)
             (send_entries link bytes.now result) }
-        ensures no_fault { (own_report self.new.log (L.report self.new.inner.now)
-            (D.report self.new.recorder.journal.disk.now)).faults
-            ≡ (own_report self.old.log (L.report self.old.inner.now)
-            (D.report self.old.recorder.journal.disk.now)).faults }
+        ensures no_fault { (report_of self.new).faults ≡ (report_of self.old).faults }
 
         // More than links must report: whether the inner links were asked, and what is noted for the next record.
-        ensures step { result ≢ SendAnswer.Memory → SendStep
-            (seen (L.report self.old.inner.now) (first_after self.old.last)
-            (D.report self.old.recorder.journal.disk.now) self.old.recorder.journal.gate
-            self.old.recorder.journal.has_record self.old.recorder.sends.now.summaries.items
-            self.old.spent)
-            (seen (L.report self.new.inner.now) (first_after self.new.last)
-            (D.report self.new.recorder.journal.disk.now) self.new.recorder.journal.gate
-            self.new.recorder.journal.has_record self.new.recorder.sends.now.summaries.items
-            self.new.spent)
+        ensures step { result ≢ SendAnswer.Memory → SendStep (seen_of self.old) (seen_of self.new)
             link bytes.now result }
-        ensures unsent { result ≡ SendAnswer.Memory → Unsent
-            (seen (L.report self.old.inner.now) (first_after self.old.last)
-            (D.report self.old.recorder.journal.disk.now) self.old.recorder.journal.gate
-            self.old.recorder.journal.has_record self.old.recorder.sends.now.summaries.items
-            self.old.spent)
-            (seen (L.report self.new.inner.now) (first_after self.new.last)
-            (D.report self.new.recorder.journal.disk.now) self.new.recorder.journal.gate
-            self.new.recorder.journal.has_record self.new.recorder.sends.now.summaries.items
-            self.new.spent) }
+        ensures unsent { result ≡ SendAnswer.Memory → Unsent (seen_of self.old) (seen_of self.new) }
         ensures spent { result ≡ SendAnswer.Memory → self.new.spent ≡ true }
         ensures disk_failed { self.new.disk_failed ≡ false }
         ensures log { self.new.log ≡ self.old.log ++ send_entries link bytes.now result }
-        ensures opened { (D.report self.new.recorder.journal.disk.now).opened
-            ≡ (D.report self.old.recorder.journal.disk.now).opened }
+        ensures opened { (disk_of self.new).opened ≡ (disk_of self.old).opened }
         ensures last { self.new.last ≡ self.old.last }
         ensures inner_same { self.new.inner.ghost_name ≡ self.old.inner.ghost_name }
         ensures disk_same { self.new.recorder.journal.disk.ghost_name
@@ -262,33 +206,15 @@ impl<'a, L: Links, D: Disk> Links for RecordedLinks<'a, L, D> {
     }
 
     fn close(&mut self, link: u64)
-        requires { MayClose (own_report self.old.log (L.report self.old.inner.now)
-            (D.report self.old.recorder.journal.disk.now)).log link }
-        ensures adds { AddsCalls
-            (own_report self.old.log (L.report self.old.inner.now)
-            (D.report self.old.recorder.journal.disk.now))
-            (own_report self.new.log (L.report self.new.inner.now)
-            (D.report self.new.recorder.journal.disk.now))
-            (Close link ∷ []) }
-        ensures no_fault { (own_report self.new.log (L.report self.new.inner.now)
-            (D.report self.new.recorder.journal.disk.now)).faults
-            ≡ (own_report self.old.log (L.report self.old.inner.now)
-            (D.report self.old.recorder.journal.disk.now)).faults }
+        requires { MayClose (report_of self.old).log link }
+        ensures adds { AddsCalls (report_of self.old) (report_of self.new) (Close link ∷ []) }
+        ensures no_fault { (report_of self.new).faults ≡ (report_of self.old).faults }
 
         // More than links must report: whether the inner link was closed.
-        ensures step { CloseStep
-            (seen (L.report self.old.inner.now) (first_after self.old.last)
-            (D.report self.old.recorder.journal.disk.now) self.old.recorder.journal.gate
-            self.old.recorder.journal.has_record self.old.recorder.sends.now.summaries.items
-            self.old.spent)
-            (seen (L.report self.new.inner.now) (first_after self.new.last)
-            (D.report self.new.recorder.journal.disk.now) self.new.recorder.journal.gate
-            self.new.recorder.journal.has_record self.new.recorder.sends.now.summaries.items
-            self.new.spent) link }
+        ensures step { CloseStep (seen_of self.old) (seen_of self.new) link }
         ensures disk_failed { self.new.disk_failed ≡ false }
         ensures log { self.new.log ≡ self.old.log ++ Close link ∷ [] }
-        ensures opened { (D.report self.new.recorder.journal.disk.now).opened
-            ≡ (D.report self.old.recorder.journal.disk.now).opened }
+        ensures opened { (disk_of self.new).opened ≡ (disk_of self.old).opened }
         ensures last { self.new.last ≡ self.old.last }
         ensures inner_same { self.new.inner.ghost_name ≡ self.old.inner.ghost_name }
         ensures disk_same { self.new.recorder.journal.disk.ghost_name
@@ -318,35 +244,6 @@ fn count_read(what: What) -> usize
     match what {
         What::Read { link: _, count } => count,
         _ => 0,
-    }
-}
-
-/// Logs an answer to `listen`, but for one of which memory ran out.
-pub fn log_listen(log: &mut CallLog, address: &Text, answer: ListenAnswer)
-    ensures { log.new ≡ log.old ++ listen_entries address.now answer }
-{
-    if answer != ListenAnswer::Memory {
-        log.listened(address, answer);
-    }
-}
-
-/// Logs a turn, with the bytes of a read, but for one of which memory ran out.
-pub fn log_turn(log: &mut CallLog, wants: &Wants, turn: Turn, buf: &[u8])
-    requires whole { length buf.now ≡ PIECE_LIMIT }
-    requires within { IsPieceWithin PIECE_LIMIT turn.what }
-    ensures { log.new ≡ log.old ++ next_entries wants.now buf.now turn }
-{
-    if turn.what != What::Memory {
-        log.turned(wants, turn, &buf[..count_read(turn.what)]);
-    }
-}
-
-/// Logs a send, but for one of which memory ran out.
-pub fn log_send(log: &mut CallLog, link: u64, bytes: &[u8], answer: SendAnswer)
-    ensures { log.new ≡ log.old ++ send_entries link bytes.now answer }
-{
-    if answer != SendAnswer::Memory {
-        log.sent(link, bytes, answer);
     }
 }
 

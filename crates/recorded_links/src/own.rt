@@ -11,8 +11,8 @@ impl<'a, L: Links, D: Disk> RecordedLinks<'a, L, D> {
     ghost use Rattle.ports.specs.Calls.{AddsCalls};
     ghost use Rattle.ports.specs.Links.{HasListenCause, listen_entries};
     ghost use Rattle.recorded_links.specs.Keeping.{FailedIf, HasPiece, is_lost, is_recorded};
-    ghost use Rattle.recorded_links.specs.Numbers.{first_after};
-    ghost use Rattle.recorded_links.specs.Steps.{OwnStep, seen};
+    ghost use Rattle.recorded_links.specs.Seeing.{disk_of, seen_of};
+    ghost use Rattle.recorded_links.specs.Steps.{OwnStep};
 
     /// Asks the inner links to listen, and records nothing. It is for a journal that has the record of a `listen`.
     pub fn listen_again(&mut self, alloc: Global, address: &Text) -> ListenAnswer
@@ -34,24 +34,13 @@ impl<'a, L: Links, D: Disk> RecordedLinks<'a, L, D> {
     pub fn hand_out(&mut self, alloc: Global, turn: Turn) -> Turn
         requires piece { HasPiece turn.what [] }
         requires recorded { is_recorded turn.what ≡ true }
-        ensures step { OwnStep
-            (seen (L.report self.old.inner.now) (first_after self.old.last)
-            (D.report self.old.recorder.journal.disk.now) self.old.recorder.journal.gate
-            self.old.recorder.journal.has_record self.old.recorder.sends.now.summaries.items
-            self.old.spent)
-            (seen (L.report self.new.inner.now) (first_after self.new.last)
-            (D.report self.new.recorder.journal.disk.now) self.new.recorder.journal.gate
-            self.new.recorder.journal.has_record self.new.recorder.sends.now.summaries.items
-            self.new.spent)
-            turn result }
-        ensures disk_failed { FailedIf self.new.disk_failed
-            (D.report self.old.recorder.journal.disk.now).faults
-            (D.report self.new.recorder.journal.disk.now).faults }
+        ensures step { OwnStep (seen_of self.old) (seen_of self.new) turn result }
+        ensures disk_failed { FailedIf self.new.disk_failed (disk_of self.old).faults
+            (disk_of self.new).faults }
         ensures lost { self.new.disk_failed ≡ is_lost turn.what result.what }
         ensures memory { result.what ≡ What.Memory → self.new.spent ≡ true }
         ensures fault { self.new.disk_failed ≡ true → self.new.spent ≡ true }
-        ensures opened { (D.report self.new.recorder.journal.disk.now).opened
-            ≡ (D.report self.old.recorder.journal.disk.now).opened }
+        ensures opened { (disk_of self.new).opened ≡ (disk_of self.old).opened }
         ensures log { self.new.log ≡ self.old.log }
         ensures last { self.new.last ≡ self.old.last }
         ensures inner { self.new.inner.now ≡ self.old.inner.now }

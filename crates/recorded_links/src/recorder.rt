@@ -8,7 +8,7 @@ ghost use Rattle.journal_format.specs.Spelling.{IsRecord, IsWord, record_bytes};
 ghost use Rattle.ports.specs.Calls.{AddsCalls};
 ghost use Rattle.ports.specs.Links.{IsWithin, send_entries};
 ghost use Rattle.ports.specs.declared.links.SendAnswer.TheVariants as send;
-ghost use Rattle.recorded_links.specs.Keeping.{AddsRecord, FailedIf, HandsListen, HandsOut, HasPiece, IsTurn, entry_of, is_lost, is_lost_listen, is_ready, is_recorded, kept_of, listen_entry};
+ghost use Rattle.recorded_links.specs.Keeping.{AddsRecord, FailedIf, HandsListen, HandsOut, HasPiece, IsTurn, entry_of, is_lost, is_lost_listen, is_ready, is_recorded, listen_entry};
 ghost use Rattle.recorded_links.specs.Numbers.{first_after, inner_number};
 ghost use Rattle.recorded_links.specs.Sending.{Fits, after_send, may_note, taken_by};
 ghost use Rattle.turn_journal.specs.Standing.{IsNext};
@@ -32,6 +32,8 @@ pub struct TurnRecorder<'a, D: Disk> {
 }
 
 impl<'a, D: Disk> TurnRecorder<'a, D> {
+    ghost use Rattle.recorded_links.specs.Seeing.{disk_in, kept_in, sends_in};
+
     /// The recorder of turns in this journal, before any send.
     pub(crate) fn over(
         journal: JournalFile<'a, D>,
@@ -51,8 +53,7 @@ impl<'a, D: Disk> TurnRecorder<'a, D> {
 
     /// Takes room for the summary of one send more.
     pub(crate) fn reserve(&mut self) -> Result<(), Memory>
-        ensures items { self.new.sends.now.summaries.items
-            ≡ self.old.sends.now.summaries.items }
+        ensures items { sends_in self.new ≡ sends_in self.old }
         ensures room { OnOk result (vec_len self.new.sends.now.summaries
             < vec_capacity self.new.sends.now.summaries) }
         ensures journal { self.new.journal ≡ self.old.journal }
@@ -62,11 +63,10 @@ impl<'a, D: Disk> TurnRecorder<'a, D> {
 
     /// Notes how a send was answered.
     pub(crate) fn note(&mut self, link: u64, answer: SendAnswer)
-        requires fits { Fits link (taken_by answer) self.old.sends.now.summaries.items }
+        requires fits { Fits link (taken_by answer) (sends_in self.old) }
         requires room { vec_len self.old.sends.now.summaries
             < vec_capacity self.old.sends.now.summaries }
-        ensures sends { self.new.sends.now.summaries.items
-            ≡ after_send link answer self.old.sends.now.summaries.items }
+        ensures sends { sends_in self.new ≡ after_send link answer (sends_in self.old) }
         ensures journal { self.new.journal ≡ self.old.journal }
     {
         self.sends.note(link, answer);
@@ -84,15 +84,14 @@ impl<'a, D: Disk> TurnRecorder<'a, D> {
     ) -> SendAnswer
         requires { 0 < length bytes.now }
         ensures within { IsWithin (length bytes.now) result }
-        ensures passed { ForSome (inner_number (first_after last) link) (λ number.
-            may_note link (length bytes.now) self.now.sends.now.summaries.items ≡ true →
-            AddsCalls (L.report inner.old) (L.report inner.new)
-            (send_entries number bytes.now result)) }
+        ensures passed { ForSome (inner_number (first_after last) link) (λ number. may_note link
+            (length bytes.now) (sends_in self.now) ≡ true → AddsCalls (L.report inner.old)
+            (L.report inner.new) (send_entries number bytes.now result)) }
         ensures own { inner_number (first_after last) link ≡ None →
             (result ≡ send.Later) × (L.report inner.new ≡ L.report inner.old) }
-        ensures unnoted { may_note link (length bytes.now) self.now.sends.now.summaries.items
-            ≡ false → (result ≡ send.Later) × (L.report inner.new ≡ L.report inner.old) }
-        ensures fits { Fits link (taken_by result) self.now.sends.now.summaries.items }
+        ensures unnoted { may_note link (length bytes.now) (sends_in self.now) ≡ false →
+            (result ≡ send.Later) × (L.report inner.new ≡ L.report inner.old) }
+        ensures fits { Fits link (taken_by result) (sends_in self.now) }
         ensures no_fault { (L.report inner.new).faults ≡ (L.report inner.old).faults }
     {
         let Some(number) = inner_number(last, link) else {
@@ -111,29 +110,19 @@ impl<'a, D: Disk> TurnRecorder<'a, D> {
         requires room { self.old.journal.gate + step_limit < journal_limit }
         requires sound { self.old.journal.failed ≡ false }
         ensures hands { HandsOut asked.what asked result }
-        ensures allowed { is_recorded asked.what ≡ true →
-            IsRecord (entry_of self.old.sends.now.summaries.items asked piece.now) }
-        ensures records { is_recorded asked.what ≡ true →
-            AddsRecord (record_bytes (entry_of self.old.sends.now.summaries.items asked piece.now))
-            (is_recorded result.what)
-            (kept_of (D.report self.old.journal.disk.now).past self.old.journal.gate
-            self.old.journal.has_record)
-            (kept_of (D.report self.new.journal.disk.now).past self.new.journal.gate
-            self.new.journal.has_record) }
-        ensures other { is_recorded asked.what ≡ false →
-            kept_of (D.report self.new.journal.disk.now).past self.new.journal.gate
-            self.new.journal.has_record
-            ≡ kept_of (D.report self.old.journal.disk.now).past self.old.journal.gate
-            self.old.journal.has_record }
-        ensures faults { FailedIf (is_lost asked.what result.what)
-            (D.report self.old.journal.disk.now).faults
-            (D.report self.new.journal.disk.now).faults }
-        ensures cleared { is_recorded result.what ≡ true → self.new.sends.now.summaries.items ≡ [] }
+        ensures allowed { is_recorded asked.what ≡ true → IsRecord
+            (entry_of (sends_in self.old) asked piece.now) }
+        ensures records { is_recorded asked.what ≡ true → AddsRecord
+            (record_bytes (entry_of (sends_in self.old) asked piece.now)) (is_recorded result.what)
+            (kept_in self.old) (kept_in self.new) }
+        ensures other { is_recorded asked.what ≡ false → kept_in self.new ≡ kept_in self.old }
+        ensures faults { FailedIf (is_lost asked.what result.what) (disk_in self.old).faults
+            (disk_in self.new).faults }
+        ensures cleared { is_recorded result.what ≡ true → sends_in self.new ≡ [] }
         ensures uncleared { is_recorded result.what ≡ false →
-            self.new.sends.now.summaries.items ≡ self.old.sends.now.summaries.items }
+            sends_in self.new ≡ sends_in self.old }
         ensures begun { self.new.journal.has_record ≡ true }
-        ensures opened { (D.report self.new.journal.disk.now).opened
-            ≡ (D.report self.old.journal.disk.now).opened }
+        ensures opened { (disk_in self.new).opened ≡ (disk_in self.old).opened }
         ensures same { self.new.journal.disk.ghost_name ≡ self.old.journal.disk.ghost_name }
     {
         if !is_recorded(asked.what) {
@@ -149,22 +138,14 @@ impl<'a, D: Disk> TurnRecorder<'a, D> {
         requires begun { self.old.journal.has_record ≡ true }
         requires room { self.old.journal.gate + step_limit < journal_limit }
         requires sound { self.old.journal.failed ≡ false }
-        ensures allowed { IsRecord (entry_of self.old.sends.now.summaries.items turn piece.now) }
-        ensures records { AddsRecord
-            (record_bytes (entry_of self.old.sends.now.summaries.items turn piece.now))
-            (is_ok result)
-            (kept_of (D.report self.old.journal.disk.now).past self.old.journal.gate
-            self.old.journal.has_record)
-            (kept_of (D.report self.new.journal.disk.now).past self.new.journal.gate
-            self.new.journal.has_record) }
-        ensures cause { HasCause (D.report self.old.journal.disk.now).faults
-            (D.report self.new.journal.disk.now).faults result }
-        ensures ok { OnOk result (self.new.sends.now.summaries.items ≡ []) }
-        ensures err { OnErr result
-            (self.new.sends.now.summaries.items ≡ self.old.sends.now.summaries.items) }
+        ensures allowed { IsRecord (entry_of (sends_in self.old) turn piece.now) }
+        ensures records { AddsRecord (record_bytes (entry_of (sends_in self.old) turn piece.now))
+            (is_ok result) (kept_in self.old) (kept_in self.new) }
+        ensures cause { HasCause (disk_in self.old).faults (disk_in self.new).faults result }
+        ensures ok { OnOk result (sends_in self.new ≡ []) }
+        ensures err { OnErr result (sends_in self.new ≡ sends_in self.old) }
         ensures begun { self.new.journal.has_record ≡ true }
-        ensures opened { (D.report self.new.journal.disk.now).opened
-            ≡ (D.report self.old.journal.disk.now).opened }
+        ensures opened { (disk_in self.new).opened ≡ (disk_in self.old).opened }
         ensures same { self.new.journal.disk.ghost_name ≡ self.old.journal.disk.ghost_name }
     {
         match fill_turn(alloc, self.bytes, self.sends, turn, piece) {
@@ -179,22 +160,16 @@ impl<'a, D: Disk> TurnRecorder<'a, D> {
         requires short { length self.old.bytes.now.items + 1 ≤ step_limit }
         requires room { self.old.journal.gate + step_limit < journal_limit }
         requires sound { self.old.journal.failed ≡ false }
-        ensures records { AddsRecord self.old.bytes.now.items (is_ok result)
-            (kept_of (D.report self.old.journal.disk.now).past self.old.journal.gate
-            self.old.journal.has_record)
-            (kept_of (D.report self.new.journal.disk.now).past self.new.journal.gate
-            self.new.journal.has_record) }
-        ensures cause { HasCause (D.report self.old.journal.disk.now).faults
-            (D.report self.new.journal.disk.now).faults result }
-        ensures ok { OnOk result (self.new.sends.now.summaries.items ≡ []) }
-        ensures err { OnErr result
-            (self.new.sends.now.summaries.items ≡ self.old.sends.now.summaries.items) }
+        ensures records { AddsRecord self.old.bytes.now.items (is_ok result) (kept_in self.old)
+            (kept_in self.new) }
+        ensures cause { HasCause (disk_in self.old).faults (disk_in self.new).faults result }
+        ensures ok { OnOk result (sends_in self.new ≡ []) }
+        ensures err { OnErr result (sends_in self.new ≡ sends_in self.old) }
         ensures begun { OnOk result (self.new.journal.has_record ≡ true) }
         ensures unbegun { OnErr result
             (self.new.journal.has_record ≡ self.old.journal.has_record) }
         ensures gate { OnErr result (self.new.journal.gate ≡ self.old.journal.gate) }
-        ensures opened { (D.report self.new.journal.disk.now).opened
-            ≡ (D.report self.old.journal.disk.now).opened }
+        ensures opened { (disk_in self.new).opened ≡ (disk_in self.old).opened }
         ensures same { self.new.journal.disk.ghost_name ≡ self.old.journal.disk.ghost_name }
     {
         match self.journal.append(alloc, self.bytes.as_slice()) {
@@ -212,31 +187,20 @@ impl<'a, D: Disk> TurnRecorder<'a, D> {
         requires room { self.old.journal.gate + step_limit < journal_limit }
         requires sound { self.old.journal.failed ≡ false }
         ensures hands { HandsListen asked result }
-        ensures allowed { (secs : ℕ) → asked ≡ ListenAnswer.Ready secs →
-            IsRecord (listen_entry self.old.sends.now.summaries.items secs) }
-        ensures records { (secs : ℕ) → asked ≡ ListenAnswer.Ready secs →
-            AddsRecord (record_bytes (listen_entry self.old.sends.now.summaries.items secs))
-            (is_ready result)
-            (kept_of (D.report self.old.journal.disk.now).past self.old.journal.gate
-            self.old.journal.has_record)
-            (kept_of (D.report self.new.journal.disk.now).past self.new.journal.gate
-            self.new.journal.has_record) }
-        ensures other { is_ready asked ≡ false →
-            kept_of (D.report self.new.journal.disk.now).past self.new.journal.gate
-            self.new.journal.has_record
-            ≡ kept_of (D.report self.old.journal.disk.now).past self.old.journal.gate
-            self.old.journal.has_record }
-        ensures faults { FailedIf (is_lost_listen asked result)
-            (D.report self.old.journal.disk.now).faults
-            (D.report self.new.journal.disk.now).faults }
-        ensures cleared { is_ready result ≡ true → self.new.sends.now.summaries.items ≡ [] }
-        ensures uncleared { is_ready result ≡ false →
-            self.new.sends.now.summaries.items ≡ self.old.sends.now.summaries.items }
+        ensures allowed { (secs : ℕ) → asked ≡ ListenAnswer.Ready secs → IsRecord
+            (listen_entry (sends_in self.old) secs) }
+        ensures records { (secs : ℕ) → asked ≡ ListenAnswer.Ready secs → AddsRecord
+            (record_bytes (listen_entry (sends_in self.old) secs)) (is_ready result)
+            (kept_in self.old) (kept_in self.new) }
+        ensures other { is_ready asked ≡ false → kept_in self.new ≡ kept_in self.old }
+        ensures faults { FailedIf (is_lost_listen asked result) (disk_in self.old).faults
+            (disk_in self.new).faults }
+        ensures cleared { is_ready result ≡ true → sends_in self.new ≡ [] }
+        ensures uncleared { is_ready result ≡ false → sends_in self.new ≡ sends_in self.old }
         ensures begun { self.new.journal.has_record ≡ is_ready result }
         ensures gate { is_ready result ≡ false →
             self.new.journal.gate ≡ self.old.journal.gate }
-        ensures opened { (D.report self.new.journal.disk.now).opened
-            ≡ (D.report self.old.journal.disk.now).opened }
+        ensures opened { (disk_in self.new).opened ≡ (disk_in self.old).opened }
         ensures same { self.new.journal.disk.ghost_name ≡ self.old.journal.disk.ghost_name }
     {
         match asked {
@@ -253,22 +217,15 @@ impl<'a, D: Disk> TurnRecorder<'a, D> {
         requires unbegun { self.old.journal.has_record ≡ false }
         requires room { self.old.journal.gate + step_limit < journal_limit }
         requires sound { self.old.journal.failed ≡ false }
-        ensures allowed { IsRecord (listen_entry self.old.sends.now.summaries.items secs) }
-        ensures records { AddsRecord
-            (record_bytes (listen_entry self.old.sends.now.summaries.items secs)) (is_ok result)
-            (kept_of (D.report self.old.journal.disk.now).past self.old.journal.gate
-            self.old.journal.has_record)
-            (kept_of (D.report self.new.journal.disk.now).past self.new.journal.gate
-            self.new.journal.has_record) }
-        ensures cause { HasCause (D.report self.old.journal.disk.now).faults
-            (D.report self.new.journal.disk.now).faults result }
-        ensures ok { OnOk result (self.new.sends.now.summaries.items ≡ []) }
-        ensures err { OnErr result
-            (self.new.sends.now.summaries.items ≡ self.old.sends.now.summaries.items) }
+        ensures allowed { IsRecord (listen_entry (sends_in self.old) secs) }
+        ensures records { AddsRecord (record_bytes (listen_entry (sends_in self.old) secs))
+            (is_ok result) (kept_in self.old) (kept_in self.new) }
+        ensures cause { HasCause (disk_in self.old).faults (disk_in self.new).faults result }
+        ensures ok { OnOk result (sends_in self.new ≡ []) }
+        ensures err { OnErr result (sends_in self.new ≡ sends_in self.old) }
         ensures begun { self.new.journal.has_record ≡ is_ok result }
         ensures gate { OnErr result (self.new.journal.gate ≡ self.old.journal.gate) }
-        ensures opened { (D.report self.new.journal.disk.now).opened
-            ≡ (D.report self.old.journal.disk.now).opened }
+        ensures opened { (disk_in self.new).opened ≡ (disk_in self.old).opened }
         ensures same { self.new.journal.disk.ghost_name ≡ self.old.journal.disk.ghost_name }
     {
         match fill_listen(alloc, self.bytes, self.sends, secs) {
