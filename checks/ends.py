@@ -18,7 +18,7 @@ from client import StandIn, call, silent
 from scarce import PORT, Scarce, Time, moment_of, processor_seconds, serving, urgent_data
 from server import OK, PATIENCE, Failed, ask, compiled, event, expect, frame, hold, query, receive, receive_frame, reply_of
 
-OTHER_PORT = 15570
+OTHER_PORT, NAME_PORTS = 15570, (15571, 15572)
 PIECE = 65_536
 UNANSWERED = 13
 
@@ -182,7 +182,7 @@ def listening(checks, host, address, port):
 
 def address_alone(checks):
     checks.files, checks.journal, checks.variables = None, None, {}
-    listening(checks, "127.0.0.2", "127.0.0.2", 15_571)
+    listening(checks, "127.0.0.2", "127.0.0.2", NAME_PORTS[0])
 
 
 def second_address_is_listened_on(checks):
@@ -192,7 +192,7 @@ def second_address_is_listened_on(checks):
         "FIRST_ADDRESS": "192.0.2.1",
         "SECOND_ADDRESS": "127.0.0.2",
     }
-    listening(checks, "two.test", "127.0.0.2", 15_572)
+    listening(checks, "two.test", "127.0.0.2", NAME_PORTS[1])
 
 
 def second_address_is_connected_to(checks):
@@ -219,7 +219,7 @@ def main():
     if len(sys.argv) != 2:
         print(__doc__.splitlines()[0], file=sys.stderr)
         return 1
-    hold(PORT, OTHER_PORT)
+    hold(PORT, OTHER_PORT, *NAME_PORTS)
     with tempfile.TemporaryDirectory() as folder:
         checks = Scarce(str(pathlib.Path(sys.argv[1]).resolve()), pathlib.Path(folder))
         checks.clock, checks.names = compiled("clock", folder), compiled("names", folder)
