@@ -1,5 +1,5 @@
 -- What is known once bytes were fed, from what the run and the replies say.
-use Rattle.std.proofs.Common.{◌≡◌, ◌≢◌, ℕ, List, [], ◌∷◌, length, refl, inl, inr, subst, arith}
+use Rattle.std.proofs.Common.{◌≡◌, ◌≢◌, ℕ, List, [], ◌∷◌, length, refl, ap, ◌∙◌, inl, inr, subst, arith}
 use Rattle.std.specs.Prelude.{Result, Err}
 use Rattle.command_setup.specs.command_io.Reports.{Reports}
 use Rattle.command_setup.specs.command_io.declared.ending.Ending.{Ending}
@@ -12,7 +12,7 @@ use Rattle.command_files.specs.Files.{IsAfterRun}
 use Rattle.command_files.specs.Runs.{RunsScript, RunsWhole}
 use Rattle.framing.specs.Frames.{partial}
 use Rattle.command_setup.specs.hub_meaning.Runs.{state_after}
-use Rattle.command_setup.specs.hub_run.Runs.{config_at}
+use Rattle.command_setup.specs.hub_run.Runs.{config_at, opening}
 use Rattle.command_setup.specs.hub_run.Taken.{steps_of}
 use Rattle.command_setup.specs.hub_run.declared.fault.RunFault.{RunFault}
 use Rattle.command_setup.specs.hub_run.declared.fault.RunFault.TheVariants as cause
@@ -42,10 +42,12 @@ fed_all : FeedsAreAnswered
     → new.err.faults ≡ old.err.faults → Wrote (bytes_taken 0 run) → FeedsAll setup bytes old new Wrote
 fed_all answered setup bytes old new run Wrote whole quiet wrote =
     let ran = whole.1 in
+    let took = ran.ran.took in
     let config = config_at setup ran.ran.secs in
-    let all : bytes_taken 0 run ≡ replies_on 0 (state_after config (steps_of ran.ran.turns)).links
-    = rw ran.ran.are (answered config PIECE_LIMIT bytes setup.address ran.ran.secs ran.ran.turns
-    (rw ran.ran.are at ran.scripted) ran.ran.takes.legal ran.ran.takes.settled) in
+    let are = ran.ran.opens ∙ ap (λ calls. opening setup ran.ran.secs ∷ calls) took.are in
+    let all : bytes_taken 0 run ≡ replies_on 0 (state_after config (steps_of took.turns)).links
+    = rw are (answered config PIECE_LIMIT bytes setup.address ran.ran.secs took.turns (rw are at ran.scripted)
+    took.takes.legal took.takes.settled) in
     record {
       run = run;
       scripted = ran.scripted;

@@ -1,5 +1,5 @@
 -- What `feed CONFIG FILE` promises.
-use Rattle.std.specs.Prelude.{◌≡◌, ◌≢◌, ℕ, ◌≤◌, ◌⊎◌, List, [], length, Err}
+use Rattle.std.specs.Prelude.{◌≡◌, ◌≢◌, ℕ, ◌≤◌, ◌⊎◌, List, [], length, Ok, Err}
 use Rattle.command_setup.specs.command_io.Endings.{IsComplete, Says, status_of}
 use Rattle.command_setup.specs.command_io.Reports.{IsIdle, Reports}
 use Rattle.command_setup.specs.command_io.declared.ending.Ending.{Ending}
@@ -14,7 +14,7 @@ use Rattle.command_files.specs.Files.{IsFile, ReadsBoth, RefusesFile, StopsAtCon
 use Rattle.command_files.specs.Runs.{RunsScript, most_turns}
 use Rattle.framing.specs.Frames.{partial}
 use Rattle.command_setup.specs.hub_meaning.Runs.{state_after}
-use Rattle.command_setup.specs.hub_run.Runs.{Finishes, config_at}
+use Rattle.command_setup.specs.hub_run.Runs.{RunsTo, config_at}
 use Rattle.command_setup.specs.hub_run.Taken.{steps_of}
 use Rattle.command_setup.specs.hub_run.declared.fault.RunFault.{RunFault}
 use Rattle.command_setup.specs.hub_run.declared.fault.RunFault.TheVariants as cause
@@ -38,8 +38,8 @@ pub record FeedsAll (setup : Setup) (bytes : List ℕ) (old new : Reports) (Wrot
   pub run : List Entry
   pub scripted : IsScriptedRun (feed_script PIECE_LIMIT bytes) run
   pub hub : Hub
-  pub ran : Finishes setup most_turns (run_report_of old old.err) (run_report_of new new.err) hub run
-  pub wrote : Wrote (replies_on 0 (state_after (config_at setup ran.secs) (steps_of ran.turns)).links)
+  pub ran : RunsTo setup most_turns (run_report_of old old.err) (run_report_of new new.err) (Ok hub) run
+  pub wrote : Wrote (replies_on 0 (state_after (config_at setup ran.secs) (steps_of ran.took.turns)).links)
   pub all_lines : new.err.faults ≡ old.err.faults
 
 -- the run was cut off, and nothing was written to the output

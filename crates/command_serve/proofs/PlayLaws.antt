@@ -1,5 +1,5 @@
 -- What a run over a load comes to, from what its parts say.
-use Rattle.std.proofs.Common.{◌≡◌, ℕ, zero, suc, ◌+◌, List, [], ◌++◌, length, refl, ap, ◌∙◌, subst, inl, arith}
+use Rattle.std.proofs.Common.{◌≡◌, ℕ, zero, suc, ◌+◌, List, [], ◌++◌, length, refl, ap, sym, ◌∙◌, subst, inl, arith}
 use Rattle.std.specs.Prelude.{min, Some, Ok}
 use Rattle.command_setup.specs.conn_core.Hub.{core_of}
 use Rattle.command_setup.specs.conn_core.Turning.{CountedPuts, puts_after}
@@ -9,7 +9,7 @@ use Rattle.command_setup.specs.event_core.declared.arrivals.Core.{Core}
 use Rattle.framing.specs.Frames.{frames_of}
 use Rattle.command_setup.specs.hub_meaning.Runs.{state_after}
 use Rattle.command_setup.specs.hub_meaning.Verdicts.{PatternsReport}
-use Rattle.command_setup.specs.hub_run.Runs.{AddsRun, Finishes, RunsTo, config_at}
+use Rattle.command_setup.specs.hub_run.Runs.{AddsRun, RunsTo, config_at}
 use Rattle.command_setup.specs.hub_run.Taken.{steps_of}
 use Rattle.command_setup.specs.hub_run.declared.setup.Setup.{Setup}
 use Rattle.index_log.specs.Live.{live_events}
@@ -71,15 +71,17 @@ same_summary events notices notices' replies replies' live live' a b c = rw a (r
 
 finished : (setup : Setup) (count : ℕ) (patterns patterns' : PatternsReport) (forks forks' lines replies live : ℕ)
     (hub : Hub) (run : List Entry)
-    → (finishes : Finishes setup greatest (counted patterns forks 0) (counted patterns' forks' lines) hub run)
+    → (finishes : RunsTo setup greatest (counted patterns forks 0) (counted patterns' forks' lines) (Ok hub) run)
     → replies ≡ length (frames_of (bytes_taken 0 run)) → IsLive (core_of hub) live
     → summary_with count lines replies live
-    ≡ summary_of count (config_at setup finishes.secs) (steps_of finishes.turns) run
+    ≡ summary_of count (config_at setup finishes.secs) (steps_of finishes.took.turns) run
 finished setup count patterns patterns' forks forks' lines replies live hub run finishes replied lives =
     let config = config_at setup finishes.secs in
-    let arrivals = (state_after config (steps_of finishes.turns)).arrivals in
-    let at = finishes.follows.state in
-    let noticed = lines_counted _ lines finishes.takes.lines.puts in
+    let arrivals = (state_after config (steps_of finishes.took.turns)).arrivals in
+    let at = finishes.took.follows.state in
+    let put = finishes.took.takes.lines in
+    let noticed =
+    lines_counted _ lines put.got.puts ∙ ap (λ notices. min (length notices) greatest) (sym put.notices) in
     let living = lives arrivals at.arrivals ∙ ap (λ c. length (live_events (state_by c arrivals).log)) at.config_is in
     same_summary count lines _ replies _ live _ noticed replied living
 

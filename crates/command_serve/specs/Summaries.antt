@@ -1,12 +1,12 @@
 -- What a load comes to.
-use Rattle.std.specs.Prelude.{◌≡◌, ℕ, List, [], ◌∷◌, ◌++◌, codes, length, min, None, Some, Err}
+use Rattle.std.specs.Prelude.{◌≡◌, ℕ, List, [], ◌∷◌, ◌++◌, codes, length, min, None, Some, Ok, Err}
 use Rattle.std.specs.Fmt.{decimal}
 use Rattle.command_setup.specs.conn_core.declared.hub.Hub.{Hub}
 use Rattle.command_setup.specs.event_core.Core.{CoreConfig, state_by}
 use Rattle.framing.specs.Frames.{frames_of}
 use Rattle.command_setup.specs.hub_meaning.Runs.{Step, notices_after, state_after}
 use Rattle.command_setup.specs.hub_meaning.Verdicts.{PatternsReport}
-use Rattle.command_setup.specs.hub_run.Runs.{Finishes, RunReport, RunsTo, config_at, run_report}
+use Rattle.command_setup.specs.hub_run.Runs.{RunReport, RunsTo, config_at, run_report}
 use Rattle.command_setup.specs.hub_run.Taken.{steps_of}
 use Rattle.command_setup.specs.hub_run.declared.fault.RunFault.TheVariants.{Memory}
 use Rattle.command_setup.specs.hub_run.declared.setup.Setup.{Setup}
@@ -46,8 +46,8 @@ pub record IsPlayed (setup : Setup) (count start : ℕ) (patterns patterns' : Pa
   pub run : List Entry
   pub hub : Hub
   pub scripted : IsScriptedRun (load_script count start) run
-  pub finishes : Finishes setup greatest (counted patterns forks 0) (counted patterns' forks' summary.notices) hub run
-  pub sums : summary ≡ summary_of count (config_at setup finishes.secs) (steps_of finishes.turns) run
+  pub finishes : RunsTo setup greatest (counted patterns forks 0) (counted patterns' forks' summary.notices) (Ok hub) run
+  pub sums : summary ≡ summary_of count (config_at setup finishes.secs) (steps_of finishes.took.turns) run
 
 -- a server was run over the load until memory ran out
 pub record IsCutOff (setup : Setup) (count start : ℕ) (patterns patterns' : PatternsReport)

@@ -1,13 +1,10 @@
 pub use Rattle.conn_core.proofs.HubMeaningLinkLaws
 pub use Rattle.conn_core.proofs.HubMeaningPrefixLaws
 pub mod AddsLaws
+pub mod PutLaws
 pub mod TakenLaws
 pub mod TurnLaws
-pub mod QuietLaws
 pub mod LoopLaws
-pub mod EndLaws
-pub mod FaultLaws
-pub mod PlainLaws
 pub mod EntryLaws
 pub mod PrefixLaws
 pub mod FreeLaws

@@ -1,7 +1,7 @@
 -- How a run goes on, turn after turn, and how it ends.
-use Rattle.std.proofs.Common.{◌≡◌, ◌≢◌, ℕ, Bool, true, false, ◌+◌, ◌<◌, inl, inr, List, [], ◌∷◌, ◌++◌, length, Ok, Err}
-use Rattle.std.proofs.Common.{refl, ap, sym, ◌∙◌, subst, arith, append-nil, length-append, ◌↔◌}
-use Rattle.std.specs.Prelude.{nat_lt, IsTrue}
+use Rattle.std.proofs.Common.{◌≡◌, ◌≢◌, ℕ, false, ◌+◌, ◌<◌, inl, inr, List, [], ◌∷◌, ◌++◌, length, Ok, Err}
+use Rattle.std.proofs.Common.{refl, ap, sym, ◌∙◌, subst, arith, length-append, ◌↔◌}
+use Rattle.std.specs.Prelude.{Bool, Option, Result, nat_lt, IsTrue}
 use Rattle.std.proofs.lemmas.Bool.{false≢true}
 use Rattle.std.specs.List.{AllByRecursion}
 use Rattle.conn_core.specs.Hub.{Follows, wants_in}
@@ -10,22 +10,20 @@ use Rattle.conn_core.specs.declared.hub.Hub.{Hub}
 use Rattle.conn_core.specs.declared.stop.Stop.{Stop}
 use Rattle.conn_core.specs.declared.stop.Stop.TheVariants.{SinkFault, Memory as StopMemory}
 use Rattle.conn_core.specs.event_core.Core.{CoreConfig}
-use Rattle.conn_core.specs.hub_meaning.Runs.{notices_after}
 use Rattle.ports.specs.Calls.{LinksReport}
 use Rattle.ports.specs.declared.entry.Entry.{Entry}
 use Rattle.ports.specs.declared.links.Turn.{Turn}
+use Rattle.ports.specs.declared.links.Want.{Want}
 use Rattle.ports.specs.declared.links.What.TheVariants.{Stopped}
-use Rattle.hub_run.specs.Quiet.{AllQuietly, CutQuietly, DoesQuietly, GoneQuietly, LostQuietly, PutsLater, StopsQuietly}
-use Rattle.hub_run.specs.Quiet.{TakesAllQuietly, TakesQuietly, TurnsQuietly, mute}
-use Rattle.hub_run.specs.Runs.{AddsRun, NotBegun, RunReport, TakesTurns}
+use Rattle.hub_run.specs.Runs.{AddsRun, AskFails, CutShort, FailsAfter, Ran, RunReport, RunsQuietly, StopsShort}
+use Rattle.hub_run.specs.Runs.{TakesAll, TakesTurns, TurnsTo, config_at}
 use Rattle.hub_run.specs.Taken.{GoesOn, MayGoOn, TakenTurn, entries_of, entries_of_turn, steps_of}
-use Rattle.hub_run.specs.Taking.{HasNoTurn}
+use Rattle.hub_run.specs.Taking.{AsksFor, ListensOn, TurnsOn, fault_of}
 use Rattle.hub_run.specs.declared.fault.RunFault.{RunFault}
 use Rattle.hub_run.specs.declared.fault.RunFault.TheVariants.{Links, Sink, Memory}
+use Rattle.hub_run.specs.declared.setup.Setup.{Setup}
 use Rattle.hub_run.proofs.AddsLaws.{adds_nothing, adds_then, adds_weaken}
-use Rattle.hub_run.proofs.TakenLaws.{all_more, entries_more, follows_more, steps_more, stops_more, taken_turn}
-use Rattle.hub_run.proofs.TakenLaws.{takes_more, takes_nothing}
-use Rattle.hub_run.proofs.QuietLaws.{puts_nothing, puts_step, puts_cut}
+use Rattle.hub_run.proofs.TakenLaws.{OneMore, Turned, all_more, cut_short, entries_more, one_more, takes_nothing}
 
 -- ---- turns, none of them the last
 
@@ -33,191 +31,100 @@ pub record Took (config : CoreConfig) (quiet : ℕ) (hub : Hub) (old new : RunRe
     (run : List Entry) : Type 0 where
   pub turns : List TakenTurn
   pub are : run ≡ entries_of turns
-  pub takes : TakesTurns config (mute old) (mute new) turns
+  pub takes : TakesTurns config quiet old new turns
   pub follows : Follows hub config (steps_of turns)
   pub count_is : length turns ≡ count
   pub going : AllByRecursion GoesOn turns
-  pub puts : PutsLater config quiet turns old.sink new.sink
 
 abbrev pub TookFrom : ℕ → Hub → Hub → RunReport → RunReport → ℕ → List Entry → Type 0
 TookFrom quiet hub hub' old new count run =
     (config : CoreConfig) → Follows hub config [] → Took config quiet hub' old new count run
 
-took_nothing : (config : CoreConfig) (quiet : ℕ) (hub : Hub) (report : RunReport) → Follows hub config []
-    → Took config quiet hub report report 0 []
-took_nothing config quiet hub report follows = record {
-  turns = [];
-  are = refl;
-  takes = takes_nothing config (mute report);
-  follows = follows;
-  count_is = refl;
-  going = tt;
-  puts = puts_nothing config quiet report.sink;
-}
-
-module _ (config : CoreConfig) (quiet : ℕ) (hub hub' : Hub) (old mid new : RunReport) (count : ℕ)
-    (first second : List Entry)
+module _ (config : CoreConfig) (quiet : ℕ) (hub : Hub) (old mid : RunReport) (count : ℕ) (first : List Entry)
     (took : Took config quiet hub old mid count first) where
   may_go_on : (limit : ℕ) → count < limit → MayGoOn limit took.turns
   may_go_on limit fewer = record { fewer = omega (arith, took.count_is, fewer); going = took.going }
 
-  entries_with : (last : TakenTurn) → second ≡ entries_of_turn last
-      → first ++ second ≡ entries_of (took.turns ++ last ∷ [])
-  entries_with last are =
-      ap (λ (run : List Entry). run ++ second) took.are ∙ ap (λ (run : List Entry). entries_of took.turns ++ run) are
-      ∙ sym (entries_more took.turns last)
+  stops : (limit : ℕ) → count < limit → (new : RunReport) (fault : RunFault) (rest : List Entry)
+      → FailsAfter config quiet took.turns mid new fault rest
+      → StopsShort config limit quiet old new fault (first ++ rest)
+  stops limit fewer new fault rest fails = record {
+    turns = took.turns;
+    rest = rest;
+    are = ap (λ (run : List Entry). run ++ rest) took.are;
+    mid = mid;
+    takes = took.takes;
+    going = may_go_on limit fewer;
+    fails = fails;
+  }
 
-  quiet_as : (t : Bool) → nat_lt count quiet ≡ t → nat_lt (length took.turns) quiet ≡ t
-  quiet_as t is = ap (λ (n : ℕ). nat_lt n quiet) took.count_is ∙ is
+  -- no turn came
+  unasked : (buf : List ℕ) (fault : RunFault) (rest : List Entry) → AsksFor (wants_in hub) buf (Err fault) rest
+      → FailsAfter config quiet took.turns mid mid fault rest
+  unasked buf Links rest asks =
+      (subst (λ (wants : List Want). AskFails wants rest) took.follows.state.links.wants asks, refl)
+  unasked buf Sink rest asks = absurd asks
+  unasked buf Memory rest asks = inl (record { is = asks; same = refl })
 
-  module _ (turn : Turn) (one : DoesQuietly (nat_lt count quiet) hub hub' mid new (Ok tt) turn second) where
-    abbrev last_of : TakenTurn
-    last_of =
-        let done = one.done in
-        let does = done.does config (steps_of took.turns) took.follows in
-        taken_turn (wants_in hub) turn done.piece does.verdicts done.calls
+  module _ (hub' : Hub) (new : RunReport) (turn : Turn) (second : List Entry) where
+    -- a turn was not finished
+    cut : (stop : Stop) → Turned (nat_lt count quiet) hub hub' mid new turn (Err stop) second
+        → FailsAfter config quiet took.turns mid new (fault_of stop) second
+    cut stop turned =
+        at stop
+        (cut_short config quiet hub hub' old mid new took.turns turn (Err stop) second took.takes took.follows
+        (subst (λ (n : ℕ). Turned (nat_lt n quiet) hub hub' mid new turn (Err stop) second) (sym took.count_is) turned)
+        stop refl)
+      where
+        at : (s : Stop) → CutShort config quiet (fault_of s) took.turns mid new second
+            → FailsAfter config quiet took.turns mid new (fault_of s) second
+        at SinkFault short = short
+        at StopMemory short = inr short
 
-    are_more : first ++ second ≡ entries_of (took.turns ++ last_of ∷ [])
-    are_more = let done = one.done in entries_with last_of done.are
+    module _ (turned : Turned (nat_lt count quiet) hub hub' mid new turn (Ok tt) second) where
+      more : OneMore config quiet hub' old new took.turns turn second
+      more =
+          one_more config quiet hub hub' old mid new took.turns turn (Ok tt) second took.takes took.follows
+          (subst (λ (n : ℕ). Turned (nat_lt n quiet) hub hub' mid new turn (Ok tt) second) (sym took.count_is) turned)
+          refl
 
-    follows_last : Follows hub' config (steps_of (took.turns ++ last_of ∷ []))
-    follows_last =
-        let done = one.done in
-        let does = done.does config (steps_of took.turns) took.follows in
-        follows_more config (mute old) (mute mid) (mute new) hub hub' took.turns turn done.piece done.calls took.takes
-        done.came done.once does
+      entries_with : (last : TakenTurn) → second ≡ entries_of_turn last
+          → first ++ second ≡ entries_of (took.turns ++ last ∷ [])
+      entries_with last are =
+          ap (λ (run : List Entry). run ++ second) took.are
+          ∙ ap (λ (run : List Entry). entries_of took.turns ++ run) are ∙ sym (entries_more took.turns last)
 
-    takes_last : TakesTurns config (mute old) (mute new) (took.turns ++ last_of ∷ [])
-    takes_last =
-        let done = one.done in
-        let does = done.does config (steps_of took.turns) took.follows in
-        takes_more config (mute old) (mute mid) (mute new) hub hub' took.turns turn done.piece done.calls took.takes
-        done.came done.once does
+      took_more : turn.what ≢ Stopped → Took config quiet hub' old new (count + 1) (first ++ second)
+      took_more goes_on =
+          let m = more in
+          record {
+            turns = took.turns ++ m.last ∷ [];
+            are = entries_with m.last m.are;
+            takes = m.takes;
+            follows = m.follows;
+            count_is = omega (arith, length-append took.turns (m.last ∷ []), took.count_is);
+            going =
+                all_more GoesOn took.turns m.last took.going
+                (λ stopped. goes_on (sym (ap (λ (t : Turn). t.what) m.is) ∙ stopped));
+          }
 
-    puts_last : PutsLater config quiet (took.turns ++ last_of ∷ []) old.sink new.sink
-    puts_last =
-        let done = one.done in
-        let does = done.does config (steps_of took.turns) took.follows in
-        puts_step config quiet took.turns does.made old.sink mid.sink new.sink took.puts last_of
-        (ap (notices_after config) (steps_more took.turns last_of) ∙ does.notices)
-        (nat_lt count quiet) (quiet_as (nat_lt count quiet) refl) (one.puts config (steps_of took.turns) took.follows)
-
-    took_more : turn.what ≢ Stopped → Took config quiet hub' old new (count + 1) (first ++ second)
-    took_more goes_on = record {
-      turns = took.turns ++ last_of ∷ [];
-      are = are_more;
-      takes = takes_last;
-      follows = follows_last;
-      count_is = omega (arith, length-append took.turns (last_of ∷ []), took.count_is);
-      going = all_more GoesOn took.turns last_of took.going goes_on;
-      puts = puts_last;
-    }
-
-    ends_stopped : (limit : ℕ) → count < limit → turn.what ≡ Stopped
-        → AllQuietly config limit quiet old new hub' (first ++ second)
-    ends_stopped limit fewer stopped = record {
-      all = record {
-        turns = took.turns ++ last_of ∷ [];
-        are = are_more;
-        takes = takes_last;
-        ended =
-            inl (record {
+      ends_stopped : (limit : ℕ) → count < limit → turn.what ≡ Stopped
+          → TakesAll config limit quiet old new hub' (first ++ second)
+      ends_stopped limit fewer stopped =
+          let m = more in
+          record {
+            turns = took.turns ++ m.last ∷ [];
+            are = entries_with m.last m.are;
+            takes = m.takes;
+            ended = inl (record {
               before = took.turns;
-              last = last_of;
+              last = m.last;
               are = refl;
               went_on = may_go_on limit fewer;
-              stopped = stopped;
+              stopped = ap (λ (t : Turn). t.what) m.is ∙ stopped;
             });
-        follows = follows_last;
-      };
-      puts = puts_last;
-    }
-
-  ends_cut : (limit : ℕ) → count < limit → (fault : RunFault) (stop : Stop) → (fault ≡ Sink → stop ≡ SinkFault)
-      → StopsQuietly (nat_lt count quiet) hub hub' mid new stop second
-      → CutQuietly config limit quiet fault old new (first ++ second)
-  ends_cut limit fewer fault stop tells at =
-      let one = at.cut in
-      let done = one.done in
-      let does = done.does config (steps_of took.turns) took.follows in
-      let last : TakenTurn = taken_turn (wants_in hub) at.turn done.piece does.verdicts done.calls in
-      record {
-        cut = record {
-          turns = took.turns;
-          last = last;
-          are = entries_with last done.are;
-          stops =
-              stops_more config (mute old) (mute mid) (mute new) hub hub' took.turns at.turn done.piece done.calls
-              took.takes done.came done.once
-              fault stop tells does;
-          going = may_go_on limit fewer;
-        };
-        puts = puts_cut config quiet took.turns does.made old.sink mid.sink new.sink took.puts
-            (nat_lt count quiet) stop (quiet_as (nat_lt count quiet) refl)
-            (one.puts config (steps_of took.turns) took.follows);
-      }
-
-  takes_muted : new ≡ mid → TakesTurns config (mute old) (mute new) took.turns
-  takes_muted same =
-      subst (λ (report : RunReport). TakesTurns config (mute old) (mute report) took.turns) (sym same) took.takes
-
-  puts_same : new ≡ mid → PutsLater config quiet took.turns old.sink new.sink
-  puts_same same =
-      subst (λ (report : RunReport). PutsLater config quiet took.turns old.sink report.sink) (sym same) took.puts
-
-  ends_lost : (limit : ℕ) → count < limit → HasNoTurn hub mid new second
-      → LostQuietly config limit quiet old new (first ++ second)
-  ends_lost limit fewer none = record {
-    lost = record {
-      turns = took.turns;
-      wants = wants_in hub;
-      turn = none.asked.turn;
-      are =
-          ap (λ (run : List Entry). run ++ second) took.are
-          ∙ ap (λ (run : List Entry). entries_of took.turns ++ run) none.asked.are;
-      takes = takes_muted none.same;
-      going = may_go_on limit fewer;
-      wanted = took.follows.state.links.wants;
-      failed = none.asked.failed;
-    };
-    puts = puts_same none.same;
-  }
-
-  ends_gone : (limit : ℕ) → count < limit → NotBegun mid new second
-      → GoneQuietly config limit quiet old new (first ++ second)
-  ends_gone limit fewer none = record {
-    gone = record {
-      turns = took.turns;
-      are = ap (λ (run : List Entry). first ++ run) none.is ∙ append-nil first ∙ took.are;
-      takes = takes_muted none.same;
-      going = may_go_on limit fewer;
-    };
-    puts = puts_same none.same;
-  }
-
-  ends_failed : (limit : ℕ) → count < limit → (fault : RunFault)
-      → TakesQuietly (nat_lt count quiet) hub hub' mid new (Err fault) second
-      → TurnsQuietly config limit quiet old new hub' (Err fault) (first ++ second)
-  ends_failed limit fewer Links one = ends_lost limit fewer one
-  ends_failed limit fewer Sink one = ends_cut limit fewer Sink SinkFault (λ _. refl) one
-  ends_failed limit fewer Memory one = elim one [
-    | inl none ↦ inl (ends_gone limit fewer none)
-    | inr at ↦ inr (ends_cut limit fewer Memory StopMemory (λ is. absurd (cc is)) at)
-  ]
-
--- as many turns were taken as may be
-ends_at_limit : (config : CoreConfig) (quiet : ℕ) (hub : Hub) (old new : RunReport) (limit : ℕ) (run : List Entry)
-    → Took config quiet hub old new limit run → AllQuietly config limit quiet old new hub run
-ends_at_limit config quiet hub old new limit run took = record {
-  all = record {
-    turns = took.turns;
-    are = took.are;
-    takes = took.takes;
-    ended = inr (record { all = took.count_is; going = took.going });
-    follows = took.follows;
-  };
-  puts = took.puts;
-}
+            follows = m.follows;
+          }
 
 -- ---- the loop
 
@@ -233,61 +140,118 @@ so_far_nothing links quiet hub report known = record {
   known = known;
   took =
       adds_nothing links (TookFrom quiet hub hub report report 0)
-      (λ config follows. took_nothing config quiet hub report follows);
+      (λ config follows. record {
+        turns = [];
+        are = refl;
+        takes = takes_nothing config quiet report;
+        follows = follows;
+        count_is = refl;
+        going = tt;
+      });
 }
 
-module _ (a b c : LinksReport) (quiet : ℕ) (hub one two : Hub) (old mid new : RunReport) (count : ℕ)
-    (so_far : SoFar a b quiet hub one old mid count) where
+module _ (a b c : LinksReport) (quiet limit : ℕ) (hub one two : Hub) (old mid new : RunReport) (count : ℕ)
+    (so_far : SoFar a b quiet hub one old mid count) (turn : Turn) where
   -- one more turn, which was not the last
-  pub so_far_more : (turn : Turn) → turn.what ≢ Stopped → AreUnclosed c.log (wants_in two)
-      → AddsRun b c (TakesQuietly (nat_lt count quiet) one two mid new (Ok turn))
-      → SoFar a c quiet hub two old new (count + 1)
-  so_far_more turn goes_on known takes = record {
+  pub so_far_more : AddsRun b c (Turned (nat_lt count quiet) one two mid new turn (Ok tt)) → turn.what ≢ Stopped
+      → AreUnclosed c.log (wants_in two) → SoFar a c quiet hub two old new (count + 1)
+  so_far_more turned goes_on known = record {
     known = known;
     took =
         adds_then a b c (TookFrom quiet hub one old mid count)
-        (TakesQuietly (nat_lt count quiet) one two mid new (Ok turn))
-        (TookFrom quiet hub two old new (count + 1)) so_far.took takes
+        (Turned (nat_lt count quiet) one two mid new turn (Ok tt)) (TookFrom quiet hub two old new (count + 1))
+        so_far.took turned
         (λ first second took does config follows.
-        took_more config quiet one two old mid new count first second (took config follows) turn does goes_on);
+        took_more config quiet one old mid count first (took config follows) two new turn second does goes_on);
   }
 
   -- the last turn
-  pub so_far_stopped : (limit : ℕ) → count < limit → (turn : Turn) → turn.what ≡ Stopped
-      → AddsRun b c (TakesQuietly (nat_lt count quiet) one two mid new (Ok turn))
-      → AddsRun a c (TakesAllQuietly hub two limit quiet old new (Ok tt))
-  so_far_stopped limit fewer turn stopped takes =
+  pub so_far_stopped : AddsRun b c (Turned (nat_lt count quiet) one two mid new turn (Ok tt)) → turn.what ≡ Stopped
+      → count < limit → AddsRun a c (TurnsOn hub limit quiet old new (Ok two))
+  so_far_stopped turned stopped fewer =
       adds_then a b c (TookFrom quiet hub one old mid count)
-      (TakesQuietly (nat_lt count quiet) one two mid new (Ok turn))
-      (TakesAllQuietly hub two limit quiet old new (Ok tt)) so_far.took takes
+      (Turned (nat_lt count quiet) one two mid new turn (Ok tt)) (TurnsOn hub limit quiet old new (Ok two))
+      so_far.took turned
       (λ first second took does config follows.
-      ends_stopped config quiet one two old mid new count first second (took config follows) turn does limit fewer
+      ends_stopped config quiet one old mid count first (took config follows) two new turn second does limit fewer
       stopped)
 
   -- a turn that was not finished
-  pub so_far_failed : (limit : ℕ) → count < limit → (fault : RunFault)
-      → AddsRun b c (TakesQuietly (nat_lt count quiet) one two mid new (Err fault))
-      → AddsRun a c (TakesAllQuietly hub two limit quiet old new (Err fault))
-  so_far_failed limit fewer fault takes =
+  pub so_far_cut : (stop : Stop) → AddsRun b c (Turned (nat_lt count quiet) one two mid new turn (Err stop))
+      → count < limit → AddsRun a c (TurnsOn hub limit quiet old new (Err (fault_of stop)))
+  so_far_cut stop turned fewer =
       adds_then a b c (TookFrom quiet hub one old mid count)
-      (TakesQuietly (nat_lt count quiet) one two mid new (Err fault))
-      (TakesAllQuietly hub two limit quiet old new (Err fault)) so_far.took takes
+      (Turned (nat_lt count quiet) one two mid new turn (Err stop))
+      (TurnsOn hub limit quiet old new (Err (fault_of stop))) so_far.took turned
       (λ first second took does config follows.
-      ends_failed config quiet one two old mid new count first second (took config follows) limit fewer fault does)
+      let before = took config follows in
+      stops config quiet one old mid count first before limit fewer new (fault_of stop) second
+      (cut config quiet one old mid count first before two new turn second stop does))
 
--- no turn is left
+-- no turn came
+pub so_far_unasked : (a b c : LinksReport) (quiet limit : ℕ) (hub one : Hub) (old mid : RunReport) (count : ℕ)
+    (buf : List ℕ) (wants : List Want) (fault : RunFault) → SoFar a b quiet hub one old mid count
+    → wants ≡ wants_in one → AddsRun b c (AsksFor wants buf (Err fault)) → count < limit
+    → AddsRun a c (TurnsOn hub limit quiet old mid (Err fault))
+so_far_unasked a b c quiet limit hub one old mid count buf wants fault so_far wants_are asks fewer =
+    adds_then a b c (TookFrom quiet hub one old mid count) (AsksFor wants buf (Err fault))
+    (TurnsOn hub limit quiet old mid (Err fault)) so_far.took asks
+    (λ first second took asked config follows.
+    let before = took config follows in
+    stops config quiet one old mid count first before limit fewer mid fault second
+    (unasked config quiet one old mid count first before buf fault second
+    (subst (λ (w : List Want). AsksFor w buf (Err fault) second) wants_are asked)))
+
+-- as many turns were taken as may be
 pub so_far_at_limit : (a b : LinksReport) (quiet : ℕ) (hub one : Hub) (old new : RunReport) (count limit : ℕ)
-    → count ≡ limit
-    → SoFar a b quiet hub one old new count → AddsRun a b (TakesAllQuietly hub one limit quiet old new (Ok tt))
+    → count ≡ limit → SoFar a b quiet hub one old new count → AddsRun a b (TurnsOn hub limit quiet old new (Ok one))
 so_far_at_limit a b quiet hub one old new count limit same so_far =
-    adds_weaken a b (TookFrom quiet hub one old new count) (TakesAllQuietly hub one limit quiet old new (Ok tt))
+    adds_weaken a b (TookFrom quiet hub one old new count) (TurnsOn hub limit quiet old new (Ok one))
     (λ run took config follows.
-    ends_at_limit config quiet one old new limit run
-    (subst (λ (n : ℕ). Took config quiet one old new n run) same (took config follows)))
+    let all = took config follows in
+    record {
+      turns = all.turns;
+      are = all.are;
+      takes = all.takes;
+      ended = inr (record { all = all.count_is ∙ same; going = all.going });
+      follows = all.follows;
+    })
     so_far.took
 
 pub not_last : (t : Bool) (turn : Turn) → (IsTrue t ↔ turn.what ≡ Stopped) → t ≡ false → turn.what ≢ Stopped
 not_last t turn tells is stopped = false≢true (sym is ∙ tells.1 stopped)
 
-pub is_stopped : (t : Bool) (turn : Turn) → (IsTrue t ↔ turn.what ≡ Stopped) → t ≡ true → turn.what ≡ Stopped
-is_stopped t turn tells is = tells.0 is
+-- ---- the whole run
+
+-- without links nothing has to be known of them
+pub unclosed_nothing : (log : Option (List Entry)) (wants : List Want) → wants ≡ [] → AreUnclosed log wants
+unclosed_nothing log wants is =
+    subst (AreUnclosed log) (sym is) (λ entries reported i within. absurd (omega (arith, within)))
+
+module _ (setup : Setup) (limit quiet : ℕ) where
+  pub unheard : (report : RunReport) (fault : RunFault) (run : List Entry) → ListensOn setup.address (Err fault) run
+      → RunsQuietly setup limit quiet report report (Err fault) run
+  unheard report Links run is = inl (record { is = is; same = refl })
+  unheard report Sink run is = absurd is
+  unheard report Memory run is = inl (record { is = is; same = refl })
+
+  pub unopened : (report : RunReport) (secs : ℕ) (run : List Entry) → ListensOn setup.address (Ok secs) run
+      → RunsQuietly setup limit quiet report report (Err Memory) run
+  unopened report secs run is = inr (inl (record { secs = secs; is = is; same = refl }))
+
+  pub ran : (old new : RunReport) (secs : ℕ) (result : Result Hub RunFault) (first second : List Entry)
+      → ListensOn setup.address (Ok secs) first → TurnsTo (config_at setup secs) limit quiet old new result second
+      → RunsQuietly setup limit quiet old new result (first ++ second)
+  ran old new secs result first second listens takes = at result (record {
+    secs = secs;
+    after = second;
+    opens = ap (λ (run : List Entry). run ++ second) listens;
+    took = takes;
+  })
+    where
+      at : (r : Result Hub RunFault) → Ran setup limit quiet old new r (first ++ second)
+          → RunsQuietly setup limit quiet old new r (first ++ second)
+      at (Ok hub) done = done
+      at (Err Links) done = inr done
+      at (Err Sink) done = done
+      at (Err Memory) done = inr (inr done)

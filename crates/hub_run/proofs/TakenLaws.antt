@@ -1,10 +1,9 @@
 -- What one more turn adds to those that were taken.
-use Rattle.std.proofs.Common.{◌≡◌, ℕ, zero, suc, ◌+◌, true, List, [], ◌∷◌, ◌++◌, length, take, Ok, Err, refl, ap, sym}
-use Rattle.std.proofs.Common.{◌∙◌, subst, arith, append-nil, append_assoc, length-append}
-use Rattle.std.specs.Prelude.{Option, Some, None, option_map}
+use Rattle.std.proofs.Common.{◌≡◌, ℕ, ◌+◌, true, List, [], ◌∷◌, ◌++◌, length, Ok, Err, refl, ap, sym}
+use Rattle.std.proofs.Common.{◌∙◌, subst, arith, append-nil}
+use Rattle.std.specs.Prelude.{Bool, Option, OnErr, OnOk, Result, nat_lt}
 use Rattle.std.specs.List.{AllByRecursion}
 use Rattle.std.proofs.lemmas.Grind.{flat_map-append}
-use Rattle.ev_types.specs.declared.item.Notice.{Notice}
 use Rattle.conn_core.specs.event_core.Core.{CoreConfig, forks_by, notices_by}
 use Rattle.conn_core.specs.hub_link.Added.{IsSendOrClose}
 use Rattle.conn_core.specs.hub_meaning.Legal.{IsLegal}
@@ -12,26 +11,23 @@ use Rattle.ports.specs.Playing.{is_turn_answer}
 use Rattle.conn_core.specs.hub_meaning.Runs.{Step, notices_after, state_after}
 use Rattle.conn_core.specs.hub_meaning.Verdicts.{AfterVerdicts, Refusal}
 use Rattle.conn_core.proofs.MsgRepliesVerdictLaws.{no_verdicts, verdicts_then}
-use Rattle.notice_sink.specs.Lines.{lines_of, notice_line}
 use Rattle.ports.specs.declared.entry.Entry.{Entry}
+use Rattle.ports.specs.declared.entry.Entry.TheVariants.{Next}
 use Rattle.ports.specs.declared.links.Turn.{Turn}
-use Rattle.ports.specs.declared.links.Want.{Want}
-use Rattle.ports.specs.Counts.{count_after}
-use Rattle.ports.specs.Writing.{Got, SinkReport}
 use Rattle.conn_core.specs.Hub.{Follows, wants_in}
-use Rattle.conn_core.specs.Turning.{CountedPuts, GotFirstLines, GotLines, Turns, longer, puts_after, turn_step}
+use Rattle.conn_core.specs.Turning.{Turns, longer, turn_step}
 use Rattle.conn_core.specs.declared.hub.Hub.{Hub}
 use Rattle.conn_core.specs.declared.stop.Stop.{Stop}
-use Rattle.conn_core.specs.declared.stop.Stop.TheVariants.{SinkFault}
-use Rattle.hub_run.specs.declared.fault.RunFault.{RunFault}
+use Rattle.conn_core.specs.declared.stop.Stop.TheVariants.{SinkFault, Memory as StopMemory}
 use Rattle.hub_run.specs.declared.fault.RunFault.TheVariants.{Sink}
-use Rattle.conn_core.proofs.LineLaws.{counted_nothing, got_nothing, got_then}
 use Rattle.key_laws.proofs.PartLaws.{keys_have_notices, notices_of_one}
 use Rattle.stream_meaning.specs.Arrivals.{Arrival}
 use Rattle.hub_run.specs.Apart.{KeysHaveTheirOwn}
-use Rattle.hub_run.specs.Runs.{RunReport, StopsIn, StopsInLines, TakesTurns}
+use Rattle.hub_run.specs.Runs.{CutShort, RunReport, TakesTurns}
 use Rattle.hub_run.specs.Taken.{IsOneTurn, TakenTurn, entries_of, entries_of_turn, steps_of, steps_of_turn, verdicts_of}
 use Rattle.hub_run.specs.Taken.{verdicts_of_turn}
+use Rattle.hub_run.specs.Taking.{DoesTurn, fault_of}
+use Rattle.hub_run.proofs.PutLaws.{first_lines, puts_nothing, puts_step, stays_quiet}
 
 -- ---- lists
 
@@ -59,49 +55,6 @@ verdicts_more turns last =
     flat_map-append verdicts_of_turn turns (last ∷ [])
     ∙ ap (λ (verdicts : List (Option Refusal)). verdicts_of turns ++ verdicts) (append-nil last.verdicts)
 
--- ---- lines
-
-puts_more : (i j count : ℕ) → puts_after j (puts_after i count) ≡ puts_after (i + j) count
-puts_more i zero count = let is : i ≡ i + zero = omega arith in ap (λ (n : ℕ). puts_after n count) is
-puts_more i (suc j) count =
-    let is : suc (i + j) ≡ i + suc j = omega arith in
-    ap (λ (n : ℕ). count_after n 1) (puts_more i j count) ∙ ap (λ (n : ℕ). puts_after n count) is
-
-puts_both : (puts : Option ℕ) (i j : ℕ)
-    → option_map (puts_after j) (option_map (puts_after i) puts) ≡ option_map (puts_after (i + j)) puts
-puts_both None i j = refl
-puts_both (Some count) i j = ap Some (puts_more i j count)
-
-puts_then : (a b c : Option ℕ) (i j : ℕ) → CountedPuts a i b → CountedPuts b j c → CountedPuts a (i + j) c
-puts_then a b c i j one two = two ∙ ap (option_map (puts_after j)) one ∙ puts_both a i j
-
-pub lines_then : (a b c : SinkReport) (first second : List Notice) → GotLines a first b → GotLines b second c
-    → GotLines a (first ++ second) c
-lines_then a b c first second one two = record {
-  text = subst (λ (bytes : List ℕ). Got a.text bytes c.text) (sym (flat_map-append notice_line first second))
-      (got_then a.text b.text c.text (lines_of first) (lines_of second) one.text two.text);
-  puts = subst (λ (n : ℕ). CountedPuts a.puts n c.puts) (sym (length-append first second))
-      (puts_then a.puts b.puts c.puts (length first) (length second) one.puts two.puts);
-}
-
--- lines that were put, and then the first of others
-pub lines_into : (a b c : SinkReport) (put made : List Notice) → GotLines a put b → GotFirstLines b made c
-    → StopsInLines a put made c
-lines_into a b c put made one two = record {
-  whole = two.whole;
-  within = two.within;
-  missing = two.missing;
-  part = two.part;
-  next = two.next;
-  text =
-      let first : List ℕ = lines_of (take two.whole made) in
-      subst (λ (bytes : List ℕ). Got a.text bytes c.text)
-      (sym (ap (λ (bytes : List ℕ). bytes ++ two.part) (flat_map-append notice_line put (take two.whole made))
-      ∙ append_assoc (lines_of put) first two.part))
-      (got_then a.text b.text c.text (lines_of put) (first ++ two.part) one.text two.text);
-  puts = puts_then a.puts b.puts c.puts (length put) two.whole one.puts two.puts;
-}
-
 -- ---- keys
 
 pub keys_have_own : (config : CoreConfig) (arrivals : List Arrival)
@@ -113,83 +66,117 @@ keys_have_own config arrivals fields apart = record {
 
 -- ---- turns
 
-pub takes_nothing : (config : CoreConfig) (report : RunReport) → TakesTurns config report report []
-takes_nothing config report =
+pub takes_nothing : (config : CoreConfig) (quiet : ℕ) (report : RunReport) → TakesTurns config quiet report report []
+takes_nothing config quiet report =
     let none : forks_by config (state_after config []).arrivals ≡ 0 = refl in
     record {
       legal = tt;
       settled = tt;
       each = tt;
       verdicts = no_verdicts report.patterns;
-      lines = record { text = got_nothing report.sink.text; puts = counted_nothing report.sink.puts };
+      lines = puts_nothing config quiet report.sink;
       apart = keys_have_own config [];
       forks = omega (arith, none);
     }
 
-abbrev pub taken_turn : List Want → Turn → List ℕ → List (Option Refusal) → List Entry → TakenTurn
-taken_turn wants turn piece verdicts calls =
-    record { wants = wants; turn = turn; piece = piece; verdicts = verdicts; calls = calls }
+-- a turn was asked for, and then it was done, or the hub stopped in the middle of it
+pub record Turned (quiet : Bool) (hub hub' : Hub) (old new : RunReport) (turn : Turn) (result : Result (Unit {0}) Stop)
+    (run : List Entry) : Type 0 where
+  pub piece : List ℕ
+  pub calls : List Entry
+  pub are : run ≡ Next (wants_in hub) turn piece ∷ calls
+  pub came : is_turn_answer turn.what ≡ true
+  pub once : AllByRecursion IsSendOrClose calls
+  pub one : DoesTurn quiet turn piece hub hub' old new result calls
 
-module _ (config : CoreConfig) (old mid new : RunReport) (hub hub' : Hub) (turns : List TakenTurn) (turn : Turn)
-    (piece : List ℕ) (calls : List Entry)
-    (takes : TakesTurns config old mid turns) (came : is_turn_answer turn.what ≡ true)
-    (once : AllByRecursion IsSendOrClose calls) where
-  -- the turn was done
-  pub follows_more : (does : Turns turn piece hub hub' mid.patterns new.patterns mid.forks new.forks mid.sink new.sink
-      (Ok tt) config (steps_of turns) calls)
-      → Follows hub' config (steps_of (turns ++ taken_turn (wants_in hub) turn piece does.verdicts calls ∷ []))
-  follows_more does =
-      subst (Follows hub' config) (sym (steps_more turns (taken_turn (wants_in hub) turn piece does.verdicts calls)))
-      does.follows
+-- it was done after these, of which nothing else changed
+pub record OneMore (config : CoreConfig) (quiet : ℕ) (hub : Hub) (old new : RunReport) (turns : List TakenTurn)
+    (turn : Turn) (run : List Entry) : Type 0 where
+  pub last : TakenTurn
+  pub is : last.turn ≡ turn
+  pub are : run ≡ entries_of_turn last
+  pub takes : TakesTurns config quiet old new (turns ++ last ∷ [])
+  pub follows : Follows hub config (steps_of (turns ++ last ∷ []))
 
-  pub takes_more : (does : Turns turn piece hub hub' mid.patterns new.patterns mid.forks new.forks mid.sink new.sink
-      (Ok tt) config (steps_of turns) calls)
-      → TakesTurns config old new (turns ++ taken_turn (wants_in hub) turn piece does.verdicts calls ∷ [])
-  takes_more does =
-      let last : TakenTurn = taken_turn (wants_in hub) turn piece does.verdicts calls in
-      let is = steps_more turns last in
-      let follows = follows_more does in
-      let before : List Notice = notices_after config (steps_of turns) in
-      let notices : notices_after config (steps_of (turns ++ last ∷ [])) ≡ before ++ does.made =
-      ap (notices_after config) is ∙ does.notices in
+when_ok : {T E P : Type 0} (result : Result T E) (value : T) → result ≡ Ok value → OnOk result P → P
+when_ok (Ok given) value is fact = fact
+when_ok (Err error) value is fact = absurd (cc is)
+
+when_err : {T E P : Type 0} (result : Result T E) (error : E) → result ≡ Err error → OnErr result P → P
+when_err (Ok value) error is fact = absurd (cc is)
+when_err (Err given) error is fact = fact
+
+is_sink : (stop : Stop) → fault_of stop ≡ Sink → stop ≡ SinkFault
+is_sink SinkFault is = refl
+is_sink StopMemory is = absurd (cc is)
+
+module _ (config : CoreConfig) (quiet : ℕ) (hub hub' : Hub) (old mid new : RunReport) (turns : List TakenTurn)
+    (turn : Turn) (result : Result (Unit {0}) Stop) (run : List Entry)
+    (takes : TakesTurns config quiet old mid turns) (follows : Follows hub config (steps_of turns))
+    (turned : Turned (nat_lt (length turns) quiet) hub hub' mid new turn result run) where
+  abbrev does : Turns turn turned.piece hub hub' mid.patterns new.patterns mid.forks new.forks turned.one.into
+      turned.one.into' result config (steps_of turns) turned.calls
+  does = turned.one.does config (steps_of turns) follows
+
+  abbrev last : TakenTurn
+  last = record {
+    wants = wants_in hub;
+    turn = turn;
+    piece = turned.piece;
+    verdicts = does.verdicts;
+    calls = turned.calls;
+  }
+
+  abbrev arrivals : List Arrival
+  arrivals = (state_after config (steps_of (turns ++ last ∷ []))).arrivals
+
+  steps_are : steps_of (turns ++ last ∷ [])
+      ≡ longer (steps_of turns) (turn_step (wants_in hub) turn turned.piece does.verdicts) turned.calls
+  steps_are = steps_more turns last
+
+  notices_are : notices_by config arrivals ≡ notices_after config (steps_of turns) ++ does.made
+  notices_are = ap (notices_after config) steps_are ∙ does.notices
+
+  pub one_more : result ≡ Ok tt → OneMore config quiet hub' old new turns turn run
+  one_more is =
+      let follows' : Follows hub' config (steps_of (turns ++ last ∷ [])) =
+      subst (Follows hub' config) (sym steps_are) (when_ok result tt is does.follows) in
       record {
-        legal = follows.legal;
-        settled = follows.settled;
-        each = all_more IsOneTurn turns last takes.each (record { came = came; once = once });
-        verdicts = subst (AfterVerdicts old.patterns new.patterns) (sym (verdicts_more turns last))
-            (verdicts_then old.patterns mid.patterns new.patterns (verdicts_of turns) does.verdicts takes.verdicts
-            does.reported);
-        lines = subst (λ (ns : List Notice). GotLines old.sink ns new.sink) (sym notices)
-            (lines_then old.sink mid.sink new.sink before does.made takes.lines does.lines);
-        apart = keys_have_own config (state_after config (steps_of (turns ++ last ∷ []))).arrivals;
-        forks =
-            subst (λ (steps : List Step). new.forks ≡ old.forks + forks_by config (state_after config steps).arrivals)
-            (sym is)
-            (omega (arith, takes.forks, does.counted));
+        last = last;
+        is = refl;
+        are = turned.are;
+        takes = record {
+          legal = follows'.legal;
+          settled = follows'.settled;
+          each = all_more IsOneTurn turns last takes.each (record { came = turned.came; once = turned.once });
+          verdicts = subst (AfterVerdicts old.patterns new.patterns) (sym (verdicts_more turns last))
+              (verdicts_then old.patterns mid.patterns new.patterns (verdicts_of turns) does.verdicts takes.verdicts
+              does.reported);
+          lines = puts_step config quiet turns does.made old.sink mid.sink new.sink turned.one.into turned.one.into'
+              takes.lines last notices_are (nat_lt (length turns) quiet) refl turned.one.lines
+              (when_ok result tt is does.lines);
+          apart = keys_have_own config arrivals;
+          forks =
+              subst (λ (steps : List Step). new.forks ≡ old.forks + forks_by config (state_after config steps).arrivals)
+              (sym steps_are)
+              (let counted = when_ok result tt is does.counted in omega (arith, takes.forks, counted));
+        };
+        follows = follows';
       }
 
-  -- the hub stopped in the middle of it
-  abbrev pub stops_more : (fault : RunFault) (stop : Stop) → (fault ≡ Sink → stop ≡ SinkFault)
-      → (does : Turns turn piece hub hub' mid.patterns new.patterns mid.forks new.forks mid.sink new.sink (Err stop)
-      config (steps_of turns) calls)
-      → StopsIn config fault old new turns (taken_turn (wants_in hub) turn piece does.verdicts calls)
-  stops_more fault stop tells does =
-      let last : TakenTurn = taken_turn (wants_in hub) turn piece does.verdicts calls in
-      let is = steps_more turns last in
-      let arrivals : List Arrival = (state_after config (steps_of (turns ++ last ∷ []))).arrivals in
-      let notices : notices_by config arrivals ≡ notices_after config (steps_of turns) ++ does.made =
-      ap (notices_after config) is ∙ does.notices in
-      record {
-        legal = subst (IsLegal config) (sym is) does.legal;
-        settled = takes.settled;
-        each = all_more IsOneTurn turns last takes.each (record { came = came; once = once });
-        verdicts = subst (AfterVerdicts old.patterns new.patterns) (sym (verdicts_more turns last))
-            (verdicts_then old.patterns mid.patterns new.patterns (verdicts_of turns) does.verdicts takes.verdicts
-            does.reported);
-        made = does.made;
-        notices = notices;
-        lines = lines_into old.sink mid.sink new.sink (notices_after config (steps_of turns)) does.made takes.lines
-            does.first_lines;
-        apart = subst (KeysHaveTheirOwn config arrivals) notices (keys_have_own config arrivals);
-        some = λ is. does.some (ap Err (tells is));
-      }
+  pub cut_short : (stop : Stop) → result ≡ Err stop → CutShort config quiet (fault_of stop) turns mid new run
+  cut_short stop is = record {
+    last = last;
+    are = turned.are;
+    one = record { came = turned.came; once = turned.once };
+    legal = subst (IsLegal config) (sym steps_are) does.legal;
+    verdicts = does.reported;
+    made = does.made;
+    notices = notices_are;
+    lines = first_lines (nat_lt (length turns) quiet) does.made mid.sink new.sink turned.one.into turned.one.into'
+        turned.one.lines (when_err result stop is does.first_lines);
+    still =
+        stays_quiet (length turns) quiet mid.sink new.sink turned.one.into turned.one.into' turned.one.lines;
+    apart = subst (KeysHaveTheirOwn config arrivals) notices_are (keys_have_own config arrivals);
+    some = λ fault. does.some (is ∙ ap Err (is_sink stop fault));
+  }

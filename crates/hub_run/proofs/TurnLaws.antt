@@ -1,6 +1,6 @@
 -- How a turn is asked for, and then taken.
-use Rattle.std.proofs.Common.{◌≡◌, ◌≢◌, ℕ, inl, inr, List, [], ◌∷◌, ◌++◌, Result, Ok, Err, refl, ap, sym, ◌∙◌, subst}
-use Rattle.std.specs.Prelude.{Option, Some, None}
+use Rattle.std.proofs.Common.{◌≡◌, ◌≢◌, ℕ, ◌<◌, List, [], ◌∷◌, ◌++◌, Result, Ok, refl, ap, sym, ◌∙◌, subst, arith}
+use Rattle.std.specs.Prelude.{Bool, Option, Some, None}
 use Rattle.conn_core.specs.hub_link.Added.{Added}
 use Rattle.ports.specs.declared.entry.Entry.{Entry}
 use Rattle.ports.specs.declared.entry.Entry.TheVariants.{Next}
@@ -17,14 +17,14 @@ use Rattle.conn_core.specs.Known.{Answered, AreUnclosed, EndsWith}
 use Rattle.conn_core.specs.Turning.{TurnsFrom}
 use Rattle.conn_core.specs.declared.hub.Hub.{Hub}
 use Rattle.conn_core.specs.declared.stop.Stop.{Stop}
-use Rattle.conn_core.specs.declared.stop.Stop.TheVariants.{Memory as StopMemory}
+use Rattle.conn_core.specs.hub_meaning.Verdicts.{PatternsReport}
 use Rattle.conn_core.proofs.KnownLaws.{known_next}
 use Rattle.conn_core.proofs.TurnLaws.{turn_is}
-use Rattle.hub_run.specs.Runs.{AddsRun, RunReport}
-use Rattle.hub_run.specs.Taking.{AsksFor, DoesTurn, StopsAt, TakesTurn}
-use Rattle.hub_run.specs.declared.fault.RunFault.{RunFault}
-use Rattle.hub_run.specs.declared.fault.RunFault.TheVariants.{Links, Sink, Memory}
-use Rattle.hub_run.proofs.AddsLaws.{adds_weaken}
+use Rattle.hub_run.specs.Runs.{AddsRun, RunReport, run_report}
+use Rattle.hub_run.specs.Taking.{AsksFor, DoesTurn, GoTo}
+use Rattle.ports.specs.Counts.{Rose}
+use Rattle.ports.specs.Writing.{SinkReport}
+use Rattle.hub_run.proofs.TakenLaws.{Turned}
 
 -- ---- the call
 
@@ -66,22 +66,15 @@ module _ (before after : LinksReport) (asked : List Want) (buf : List ℕ) (turn
           let same : log ++ Next asked turn (piece_of turn.what buf) ∷ [] ≡ entries = cc in
           record { before = log; wants = asked; piece = piece_of turn.what buf; is = sym same }
 
-pub ask_failed : (fault : RunFault) (hub : Hub) (report : RunReport) (buf : List ℕ) (run : List Entry)
-    → AsksFor (wants_in hub) buf (Err fault) run
-    → TakesTurn hub hub report report (Err fault) run
-ask_failed Links hub report buf run asks = record { asked = asks; same = refl }
-ask_failed Sink hub report buf run asks = absurd asks
-ask_failed Memory hub report buf run asks = inl (record { is = asks; same = refl })
-
 -- ---- the turn that came
 
-module _ (a b c : LinksReport) (hub hub' : Hub) (old new : RunReport) (buf piece : List ℕ) (turn : Turn)
-    (result : Result (Unit {0}) Stop) where
-  pub turn_done : AddsRun a b (AsksFor (wants_in hub) buf (Ok turn)) → turn.what ≢ Failed → turn.what ≢ NoMemory
-      → piece ≡ piece_of turn.what buf
-      → Added b c (TurnsFrom turn piece hub hub' old.patterns new.patterns old.forks new.forks old.sink new.sink result)
-      → AddsRun a c (DoesTurn hub hub' old new result turn)
-  turn_done asks not_failed not_memory is does = record {
+module _ (a b c : LinksReport) (quiet : Bool) (hub hub' : Hub) (old new : RunReport) (wants : List Want)
+    (buf piece : List ℕ) (turn : Turn) (result : Result (Unit {0}) Stop) where
+  pub turn_done : AddsRun a b (AsksFor wants buf (Ok turn)) → wants ≡ wants_in hub → turn.what ≢ Failed
+      → turn.what ≢ NoMemory → piece ≡ piece_of turn.what buf
+      → Added b c (DoesTurn quiet turn piece hub hub' old new result)
+      → AddsRun a c (Turned quiet hub hub' old new turn result)
+  turn_done asks wants_are not_failed not_memory is does = record {
     run = asks.run ++ does.run;
     grew = calls_then a b c asks.run does.run asks.grew does.grew;
     holds = record {
@@ -89,24 +82,29 @@ module _ (a b c : LinksReport) (hub hub' : Hub) (old new : RunReport) (buf piece
       calls = does.run;
       are =
           ap (λ (run : List Entry). run ++ does.run) asks.holds
+          ∙ ap (λ (asked : List Want). Next asked turn (piece_of turn.what buf) ∷ does.run) wants_are
           ∙ ap (λ (bytes : List ℕ). Next (wants_in hub) turn bytes ∷ does.run) (sym is);
       came = turn_is turn.what not_failed not_memory;
       once = does.calls;
-      does = does.holds;
+      one = does.holds;
     };
   }
 
--- the hub stopped in the middle of it
-pub turn_stopped : (a c : LinksReport) (hub hub' : Hub) (old new : RunReport) (turn : Turn) (stop : Stop)
-    → AddsRun a c (DoesTurn hub hub' old new (Err stop) turn)
-    → AddsRun a c (StopsAt hub hub' old new stop)
-turn_stopped a c hub hub' old new turn stop does =
-    adds_weaken a c (DoesTurn hub hub' old new (Err stop) turn) (StopsAt hub hub' old new stop)
-    (λ run one. record { turn = turn; cut = one }) does
+-- a turn of the hub, whose lines went to this sink or another
+pub done_into : (a b : LinksReport) (turn : Turn) (piece : List ℕ) (hub hub' : Hub) (patterns patterns' : PatternsReport)
+    (forks forks' : ℕ) (sink sink' into into' : SinkReport) (result : Result (Unit {0}) Stop) (quiet : Bool)
+    → GoTo quiet sink sink' into into'
+    → Added a b (TurnsFrom turn piece hub hub' patterns patterns' forks forks' into into' result)
+    → Added a b (DoesTurn quiet turn piece hub hub' (run_report patterns forks sink) (run_report patterns' forks' sink')
+    result)
+done_into a b turn piece hub hub' patterns patterns' forks forks' sink sink' into into' result quiet lines does = record {
+  run = does.run;
+  grew = does.grew;
+  no_fault = does.no_fault;
+  calls = does.calls;
+  holds = record { into = into; into' = into'; lines = lines; does = does.holds };
+}
 
-pub turn_out_of_memory : (a c : LinksReport) (hub hub' : Hub) (old new : RunReport)
-    → AddsRun a c (StopsAt hub hub' old new StopMemory)
-    → AddsRun a c (TakesTurn hub hub' old new (Err Memory))
-turn_out_of_memory a c hub hub' old new stops =
-    adds_weaken a c (StopsAt hub hub' old new StopMemory) (TakesTurn hub hub' old new (Err Memory)) (λ run at. inr at)
-    stops
+-- a sink that counts no faults does not fail
+pub never_rose : Rose 0 0 → ⊥
+never_rose rose = let less : 0 < 0 = rose (omega arith) in omega (arith, less)

@@ -5,6 +5,5 @@ pub mod Taken
 pub mod Apart
 pub mod Runs
 pub mod Taking
-pub mod Quiet
 pub mod TakenBytes
 pub mod Laws

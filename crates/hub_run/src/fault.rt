@@ -1,6 +1,8 @@
 ghost use Rattle.std.specs.Prelude.{◌≡◌};
+ghost use Rattle.hub_run.specs.Taking.{fault_of};
 ghost use Rattle.hub_run.specs.declared.fault.RunFault.TheVariants.{Memory as out_of_memory};
 
+use conn_core::Stop;
 use ev_types::Memory;
 use thiserror::Error;
 
@@ -22,5 +24,16 @@ impl From<Memory> for RunFault {
 
     fn from(_memory: Memory) -> RunFault {
         RunFault::Memory
+    }
+}
+
+impl From<Stop> for RunFault {
+    ghost from_gives = { λ stop fault. fault ≡ fault_of stop };
+
+    fn from(stop: Stop) -> RunFault {
+        match stop {
+            Stop::SinkFault => RunFault::Sink,
+            Stop::Memory => RunFault::Memory,
+        }
     }
 }

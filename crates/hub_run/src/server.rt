@@ -1,17 +1,17 @@
-ghost use Rattle.std.specs.Prelude.{◌≡◌, ◌≢◌, false, Err, OnOk, length, nat_lt};
+ghost use Rattle.std.specs.Prelude.{◌≡◌, ◌≢◌, false, Err, length};
 ghost use Rattle.conn_core.specs.Hub.{has_stopped, wants_in};
 ghost use Rattle.conn_core.specs.Known.{AreUnclosed};
 ghost use Rattle.ev_types.specs.Interval.{IsInterval};
-ghost use Rattle.hub_run.specs.Quiet.{RunsQuietly, TakesAllQuietly, TakesQuietly};
-ghost use Rattle.hub_run.specs.Runs.{AddsRun, RunsTo, run_report};
+ghost use Rattle.hub_run.specs.Runs.{AddsRun, RunsQuietly, RunsTo, run_report};
+ghost use Rattle.hub_run.specs.Taking.{TurnsOn};
 ghost use Rattle.ports.specs.Counts.{Rose};
 
 use crate::fault::RunFault;
 use crate::setup::Setup;
 use crate::start::{buffer, listen, open_hub};
-use crate::turn::{is_last, take_turn};
+use crate::turn::{ask, do_turn, is_last, piece_len};
 use conn_core::Hub;
-use ports::{CountSink, Links, PIECE_LIMIT, Sink, Turn, What};
+use ports::{Links, PIECE_LIMIT, Sink};
 use pred_eval::Patterns;
 use std::alloc::Global;
 use step_count::{Ledger, Steps};
@@ -70,10 +70,10 @@ pub fn run_quietly<L: Links, O: Sink, P: Patterns, G: Ledger>(
 {
     let mut buf = buffer(alloc)?;
     let secs = listen(alloc, &setup.address, links)?;
-    let mut hub = open_hub(alloc, setup, secs)?;
+    let hub = open_hub(alloc, setup, secs)?;
     take_turns(
         alloc,
-        &mut hub,
+        hub,
         turns,
         quiet,
         buf.as_mut_slice(),
@@ -81,14 +81,13 @@ pub fn run_quietly<L: Links, O: Sink, P: Patterns, G: Ledger>(
         sink,
         patterns,
         steps,
-    )?;
-    Ok(hub)
+    )
 }
 
 /// Takes turns until one is the last, or until `turns` of them were taken. The lines of the first `quiet` are not put.
 fn take_turns<L: Links, O: Sink, P: Patterns, G: Ledger>(
     alloc: Global,
-    hub: &mut Hub,
+    mut hub: Hub,
     turns: u64,
     quiet: u64,
     buf: &mut [u8],
@@ -96,12 +95,12 @@ fn take_turns<L: Links, O: Sink, P: Patterns, G: Ledger>(
     sink: &mut O,
     patterns: &mut P,
     steps: &mut Steps<G>,
-) -> Result<(), RunFault>
+) -> Result<Hub, RunFault>
     requires whole { length buf.old ≡ PIECE_LIMIT }
-    requires known { AreUnclosed (L.report links.old).log (wants_in hub.old) }
-    requires going { has_stopped hub.old ≡ false }
+    requires known { AreUnclosed (L.report links.old).log (wants_in hub) }
+    requires going { has_stopped hub ≡ false }
     ensures takes { AddsRun (L.report links.old) (L.report links.new)
-        (TakesAllQuietly hub.old hub.new turns quiet
+        (TurnsOn hub turns quiet
         (run_report (P.report patterns.old) steps.old.forks (O.report sink.old))
         (run_report (P.report patterns.new) steps.new.forks (O.report sink.new)) result) }
     ensures links_fault { result ≡ Err RunFault.Links →
@@ -114,47 +113,16 @@ fn take_turns<L: Links, O: Sink, P: Patterns, G: Ledger>(
         (O.report sink.old).faults }
 {
     for taken in 0..turns {
-        let turn = take_next(alloc, hub, taken, quiet, buf, links, sink, patterns, steps)?;
+        let turn = ask(alloc, hub.wants(), buf, links)?;
+        let count = piece_len(turn.what);
+        let piece = &buf[..count];
+        let silent = taken < quiet;
+        do_turn(
+            alloc, &mut hub, silent, turn, piece, links, sink, patterns, steps,
+        )?;
         if is_last(turn) {
-            return Ok(());
+            return Ok(hub);
         }
     }
-    Ok(())
-}
-
-/// Takes one turn after `taken` others. Its lines are put unless it is one of the first `quiet`.
-fn take_next<L: Links, O: Sink, P: Patterns, G: Ledger>(
-    alloc: Global,
-    hub: &mut Hub,
-    taken: u64,
-    quiet: u64,
-    buf: &mut [u8],
-    links: &mut L,
-    sink: &mut O,
-    patterns: &mut P,
-    steps: &mut Steps<G>,
-) -> Result<Turn, RunFault>
-    requires whole { length buf.old ≡ PIECE_LIMIT }
-    requires known { AreUnclosed (L.report links.old).log (wants_in hub.old) }
-    requires going { has_stopped hub.old ≡ false }
-    ensures going { OnOk result (has_stopped hub.new ≡ false) }
-    ensures known { OnOk result (AreUnclosed (L.report links.new).log (wants_in hub.new)) }
-    ensures takes { AddsRun (L.report links.old) (L.report links.new)
-        (TakesQuietly (nat_lt taken quiet) hub.old hub.new
-        (run_report (P.report patterns.old) steps.old.forks (O.report sink.old))
-        (run_report (P.report patterns.new) steps.new.forks (O.report sink.new)) result) }
-    ensures links_fault { result ≡ Err RunFault.Links →
-        Rose (L.report links.old).faults (L.report links.new).faults }
-    ensures links_quiet { result ≢ Err RunFault.Links → (L.report links.new).faults ≡
-        (L.report links.old).faults }
-    ensures sink_fault { result ≡ Err RunFault.Sink →
-        Rose (O.report sink.old).faults (O.report sink.new).faults }
-    ensures sink_quiet { result ≢ Err RunFault.Sink → (O.report sink.new).faults ≡
-        (O.report sink.old).faults }
-{
-    if taken < quiet {
-        let mut none = CountSink { puts: 0 };
-        return take_turn(alloc, hub, buf, links, &mut none, patterns, steps);
-    }
-    take_turn(alloc, hub, buf, links, sink, patterns, steps)
+    Ok(hub)
 }

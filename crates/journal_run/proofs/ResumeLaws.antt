@@ -5,8 +5,7 @@ use Rattle.std.proofs.lemmas.Grind.{merely}
 use Rattle.std.specs.Prelude.{Result}
 use Rattle.disk_port.specs.Calls.{DiskReport}
 use Rattle.disk_port.specs.Past.{synced}
-use Rattle.hub_run.specs.Quiet.{RunsQuietly}
-use Rattle.hub_run.specs.Runs.{RunReport}
+use Rattle.hub_run.specs.Runs.{RunReport, RunsQuietly}
 use Rattle.hub_run.specs.conn_core.declared.hub.Hub.{Hub}
 use Rattle.hub_run.specs.declared.setup.Setup.{Setup}
 use Rattle.journal_format.specs.declared.finder.Found.{Found}

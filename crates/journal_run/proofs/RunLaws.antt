@@ -5,13 +5,11 @@ use Rattle.std.proofs.Math.Logic.{∥∥₁_map}
 use Rattle.std.specs.Prelude.{Result, Some, None}
 use Rattle.disk_port.specs.Calls.{DiskReport}
 use Rattle.disk_port.specs.Past.{Leaves, Past}
-use Rattle.hub_run.specs.Quiet.{RunsQuietly}
-use Rattle.hub_run.specs.Runs.{AddsRun, RunReport}
+use Rattle.hub_run.specs.Runs.{AddsRun, RunReport, RunsQuietly}
 use Rattle.hub_run.specs.conn_core.declared.hub.Hub.{Hub}
 use Rattle.hub_run.specs.declared.fault.RunFault.{RunFault}
 use Rattle.hub_run.specs.declared.fault.RunFault.TheVariants as run
 use Rattle.hub_run.specs.declared.setup.Setup.{Setup}
-use Rattle.hub_run.proofs.PlainLaws.{runs_plainly}
 use Rattle.journal_format.specs.Journals.{Holds, Journal}
 use Rattle.journal_format.specs.declared.finder.Found.{Found}
 use Rattle.journal_format.specs.declared.turn_record.TurnRecord.{TurnRecord}
@@ -136,9 +134,7 @@ ran_recorded setup limit found records links links' disk disk' old new result no
         let no_less : 0 - 2 ≡ 0 = omega arith in
         let made = ∥∥₁_map ran.made (recorded_so found links links' disk disk' ran.calls) in record {
           calls = ran.calls;
-          runs =
-              runs_plainly setup limit old new (run_result result) ran.calls
-              (subst (λ (n : ℕ). RunsQuietly setup limit n old new (run_result result) ran.calls) no_less ran.runs);
+          runs = subst (λ (n : ℕ). RunsQuietly setup limit n old new (run_result result) ran.calls) no_less ran.runs;
           made = made;
           passed = ∥∥₁_map made (passed_by found links links' disk disk' ran.calls);
           journal = λ journal start told stands.

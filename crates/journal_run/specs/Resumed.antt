@@ -2,8 +2,7 @@
 use Rattle.std.specs.Prelude.{◌≡◌, ℕ, ◌-◌, List, length, Some, Result}
 use Rattle.disk_port.specs.Calls.{DiskReport}
 use Rattle.disk_port.specs.Past.{Past, synced}
-use Rattle.hub_run.specs.Quiet.{RunsQuietly}
-use Rattle.hub_run.specs.Runs.{RunReport}
+use Rattle.hub_run.specs.Runs.{RunReport, RunsQuietly}
 use Rattle.hub_run.specs.conn_core.declared.hub.Hub.{Hub}
 use Rattle.hub_run.specs.declared.setup.Setup.{Setup}
 use Rattle.journal_format.specs.Journals.{Journal}

@@ -1,8 +1,7 @@
 ghost use Rattle.std.specs.Prelude.{◌≡◌, ◌≢◌, ◌+◌, ◌-◌, ◌<◌, [], Err, false, length, true};
 ghost use Rattle.std.specs.List.{list_all};
 ghost use Rattle.ev_types.specs.Interval.{IsInterval};
-ghost use Rattle.hub_run.specs.Quiet.{RunsQuietly};
-ghost use Rattle.hub_run.specs.Runs.{run_report};
+ghost use Rattle.hub_run.specs.Runs.{RunsQuietly, run_report};
 ghost use Rattle.journal_format.specs.Limits.{journal_limit, step_limit};
 ghost use Rattle.journal_run.specs.Recorded.{run_result};
 ghost use Rattle.journal_run.specs.Resumed.{RunsResumed};

@@ -77,30 +77,18 @@ is_query words address text turns (short, inr (number, are, is)) =
 
 is_named : (words : List (List ℕ)) (command : Command) → IsCommandOf words command
     → named words ≡ Some (named_by command)
-is_named words (Feed config file) is = ap named is
-is_named words (Check config) is = ap named is
-is_named words (Replay config script) is = ap named is
 is_named words (Serve config turns) is = is_serve words config.now turns is
 is_named words (Load config count start) is = is_load words config.now count start is
 is_named words (Graphite file host_part) is = is_graphite words file.now host_part is
-is_named words (Test config tests) is = ap named is
 is_named words (Send address file turns) is = is_send words address.now file.now turns is
 is_named words (Query address text turns) is = is_query words address.now text.now turns is
-is_named words (Record config journal) is = ap named is
-is_named words (Resume journal) is = ap named is
+is_named words _ is = ap named is
 
 pub within_limits : (words : List (List ℕ)) (command : Command) → IsCommandOf words command → IsWithinLimits command
-within_limits words (Feed config file) is = tt
-within_limits words (Check config) is = tt
-within_limits words (Replay config script) is = tt
-within_limits words (Serve config turns) is = tt
 within_limits words (Load config count start) is = is.few
 within_limits words (Graphite file host_part) is = host_part_within words file.now host_part is
-within_limits words (Test config tests) is = tt
-within_limits words (Send address file turns) is = tt
 within_limits words (Query address text turns) is = is.0
-within_limits words (Record config journal) is = tt
-within_limits words (Resume journal) is = tt
+within_limits words _ is = tt
 
 -- ---- all that is promised of the arguments
 

@@ -19,14 +19,7 @@ use Rattle.riemann_commands.specs.Words.{IsGraphite, IsUsage}
 
 no_ending : (ending : Ending) → status_of ending ≡ Usage → ⊥
 no_ending Finished e = cc
-no_ending (ConfigRefused refusal) e = cc
-no_ending (Unread unread) e = cc
-no_ending (OverLimit over limit) e = cc
-no_ending (BytesLeft count) e = cc
-no_ending WriteFailed e = cc
-no_ending LinksFailed e = cc
-no_ending (ScriptRefused line) e = cc
-no_ending OutOfMemory e = cc
+no_ending _ e = cc
 
 pub not_usage : (status : Status) (ending : Ending) → status ≡ status_of ending → status ≡ Usage → ⊥
 not_usage status ending ended e = no_ending ending (rw ended at e)
@@ -35,14 +28,7 @@ not_usage status ending ended e = no_ending ending (rw ended at e)
 
 pub no_disk : (ending : Ending) → status_of ending ≡ DiskFault → ⊥
 no_disk Finished e = cc
-no_disk (ConfigRefused refusal) e = cc
-no_disk (Unread unread) e = cc
-no_disk (OverLimit over limit) e = cc
-no_disk (BytesLeft count) e = cc
-no_disk WriteFailed e = cc
-no_disk LinksFailed e = cc
-no_disk (ScriptRefused line) e = cc
-no_disk OutOfMemory e = cc
+no_disk _ e = cc
 
 pub not_of_disk : (status : Status) (ending : Ending) → status ≡ status_of ending → status ≡ DiskFault → ⊥
 not_of_disk status ending ended e = no_disk ending (rw ended at e)
@@ -87,23 +73,8 @@ host_part_within words file host_part (inr (number, first, are, is, some)) part 
 -- ---- what was not written
 
 pub refusal_or_memory : (status : Status) → IsRefusal status → IsRefusalOrMemory status
-refusal_or_memory Done refused = refused
-refusal_or_memory Usage refused = refused
-refusal_or_memory Config refused = refused
-refusal_or_memory ReadFault refused = refused
-refusal_or_memory SinkFault refused = refused
-refusal_or_memory LinkFault refused = refused
 refusal_or_memory Memory refused = tt
-refusal_or_memory Script refused = refused
-refusal_or_memory Truncated refused = refused
-refusal_or_memory TooLong refused = refused
-refusal_or_memory Lines refused = refused
-refusal_or_memory Tests refused = refused
-refusal_or_memory Verdict refused = refused
-refusal_or_memory Unanswered refused = refused
-refusal_or_memory BadReply refused = refused
-refusal_or_memory Journal refused = refused
-refusal_or_memory DiskFault refused = refused
+refusal_or_memory _ refused = refused
 
 pub out_of_memory : (status : Status) → status ≡ Memory → IsRefusalOrMemory status
 out_of_memory status e = rw e tt

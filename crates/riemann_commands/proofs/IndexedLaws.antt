@@ -7,8 +7,9 @@ use Rattle.command_files.specs.Runs.{most_turns}
 use Rattle.command_setup.specs.hub_meaning.Messages.{events_of, posts_of, read_as, reading_of}
 use Rattle.command_setup.specs.hub_meaning.Runs.{state_after}
 use Rattle.command_setup.specs.hub_run.Laws.{FeedsArePosted}
-use Rattle.command_setup.specs.hub_run.Runs.{config_at}
+use Rattle.command_setup.specs.hub_run.Runs.{config_at, opening}
 use Rattle.command_setup.specs.hub_run.Taken.{steps_of}
+use Rattle.ports.specs.declared.entry.Entry.{Entry}
 use Rattle.ports.specs.Pieces.{feed_script}
 use Rattle.ports.specs.Playing.{IsScriptedRun}
 use Rattle.ports.specs.declared.links.TheConstants.{PIECE_LIMIT}
@@ -135,18 +136,21 @@ last_lines reads posts setup host_part text old new plan few fed =
     let bytes : List ℕ = frames_in host_part text in
     let back = reads host_part text in
     let ran = fed.ran in
-    let takes = ran.takes in
+    let took = ran.took in
+    let takes = took.takes in
     let config : CoreConfig = config_at setup ran.secs in
     let fresh : CoreState = record { history = since config.start; log = [] } in
     let within : length bytes ≤ 67108864 = few in
     let some : 0 < 65536 = omega arith in
     let fewer : length bytes + 2 < 18446744073709551615 = omega (arith, within) in
-    let run = subst (IsScriptedRun (feed_script PIECE_LIMIT bytes)) ran.are fed.scripted in
-    let arrivals : (state_after config (steps_of ran.turns)).arrivals ≡ map Post events =
-    posts setup PIECE_LIMIT most_turns bytes ran.secs ran.turns some fewer back.whole run
-    takes.legal takes.each ran.ended
+    let run =
+    subst (IsScriptedRun (feed_script PIECE_LIMIT bytes))
+    (ran.opens ∙ ap (λ (calls : List Entry). opening setup ran.secs ∷ calls) took.are) fed.scripted in
+    let arrivals : (state_after config (steps_of took.turns)).arrivals ≡ map Post events =
+    posts setup PIECE_LIMIT most_turns bytes ran.secs took.turns some fewer back.whole run
+    takes.legal takes.each took.ended
     ∙ posts_are (frames_of bytes) events back.faultless (back.same 0) in
-    let log : (state_by config (state_after config (steps_of ran.turns)).arrivals).log ≡ map Write events =
+    let log : (state_by config (state_after config (steps_of took.turns)).arrivals).log ≡ map Write events =
     ap (λ (xs : List Arrival). (state_by config xs).log) arrivals
     ∙ ap (λ (streams : StreamTrees). (state_from streams setup.expiry (map Post events) fresh).log) plan
     ∙ log_from setup.expiry events fresh in

@@ -38,5 +38,5 @@ LastLinesAreLeft = (setup : Setup) (host_part : Option ℕ) (text : List ℕ) (o
     → setup.plan ≡ index_alone → length (frames_in host_part text) ≤ FILE_LIMIT
     → (fed :
     FeedsAll setup (frames_in host_part text) old new (λ replies. Got old.out.text replies new.out.text))
-    → live_after (config_at setup fed.ran.secs) fed.ran.turns
+    → live_after (config_at setup fed.ran.secs) fed.ran.took.turns
     ≡ placed_onto [] (last_of_keys (accepted host_part (lines_of text)))

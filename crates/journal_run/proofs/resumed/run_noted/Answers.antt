@@ -1,6 +1,5 @@
 use Rattle.std.proofs.Common.{◌≡◌, ℕ, ◌+◌, ◌∙◌, ap, subst, rules}
-use Rattle.hub_run.specs.Quiet.{RunsQuietly}
-use Rattle.hub_run.specs.Runs.{run_report}
+use Rattle.hub_run.specs.Runs.{RunsQuietly, run_report}
 use Rattle.journal_run.proofs.RunLaws.{disk_still, links_rose, links_still, run_calls}
 use Rattle.list_laws.specs.Counts.{Rose}
 use Rattle.recorded_links.specs.Lending.{disk_faults}
