@@ -204,6 +204,10 @@ def run_all(about, named, *ports, prepare=lambda checks: None):
         print(about.splitlines()[0], file=sys.stderr)
         return 1
     hold(*ports)
+    # A signal that is ignored here, as by nohup, is ignored by all that is started.
+    for one in (signal.SIGHUP, signal.SIGQUIT):
+        signal.signal(one, signal.SIG_DFL)
+    signal.signal(signal.SIGINT, signal.default_int_handler)
     # Another user looks into the folders too.
     os.umask(0o022)
     with tempfile.TemporaryDirectory(ignore_cleanup_errors=True) as folder:
